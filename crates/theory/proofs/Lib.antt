@@ -1,0 +1,12 @@
+pub mod Bounds
+pub mod Tops
+pub mod Reach
+pub mod Meet
+pub mod Close
+pub mod Widen
+pub mod Keep
+pub mod Track
+pub mod Faults
+pub mod Trajectories
+pub mod Shown
+pub mod Example

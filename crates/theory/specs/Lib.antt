@@ -1,0 +1,10 @@
+pub mod Bound
+pub mod Level
+pub mod Zone
+pub mod History
+pub mod Possible
+pub mod End
+pub mod Law
+pub mod Computed
+pub mod Promise
+pub mod Example
