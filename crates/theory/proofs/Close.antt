@@ -20,7 +20,7 @@ use Rattle.theory.proofs.Tops.{before-or}
 use Rattle.theory.proofs.Meet.{in-larger, meeting}
 
 -- ---- one turn keeps the levels
-sum-holds : (n : ℕ) (z : Zone) (x : Levels) (i j k : ℕ) → i ≤ n → j ≤ n → k ≤ n → In n z x → Holds (sum (z i k) (z k j)) (difference x i j)
+pub sum-holds : (n : ℕ) (z : Zone) (x : Levels) (i j k : ℕ) → i ≤ n → j ≤ n → k ≤ n → In n z x → Holds (sum (z i k) (z k j)) (difference x i j)
 sum-holds n z x i j k hi hj hk p =
     rw (difference-sum x i j k) (holds-sum (z i k) (z k j) (difference x i k) (difference x k j) (p .holds i k hi hk) (p .holds k j hk hj))
 
