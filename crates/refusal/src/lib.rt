@@ -5,6 +5,7 @@ ghost use Rattle.refusal.specs.Number.{number-of, place-of};
 mod kinds;
 
 pub use kinds::Refusal;
+pub use kinds::RefusalDebug;
 
 impl Refusal {
     // The number by which a refusal is known to users.

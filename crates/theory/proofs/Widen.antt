@@ -106,7 +106,7 @@ step-same n r z ca x =
     (λ p. c .0 (f .0 p), λ p. f .1 (c .1 p))
 
 -- a step never empties a zone: the levels may stay
-stays : (n : ℕ) (r : Rates) (z : Zone) → Canonical n z → (x : Levels) × In n (widen r z) x
+pub stays : (n : ℕ) (r : Rates) (z : Zone) → Canonical n z → (x : Levels) × In n (widen r z) x
 stays n r z ca =
     let s = some-levels n z ca in
     (s .0, lands n r z (s .0) (s .0) (s .1) record { datum = s .1 .datum; rises = λ i hi. omega arith; falls = λ i hi. omega arith })

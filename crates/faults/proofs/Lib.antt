@@ -1,0 +1,5 @@
+pub mod Bits
+pub mod Order
+pub mod Tally
+pub mod Represent
+pub mod Common

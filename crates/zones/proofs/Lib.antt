@@ -1,0 +1,9 @@
+pub mod Cells
+pub mod Turning
+pub mod Settling
+pub mod Closing
+pub mod Filling
+pub mod Checked
+pub mod Meeting
+pub mod Stepping
+pub mod Starting
