@@ -47,7 +47,8 @@ zone-after n start w [] = bounds-of n (first-zone start)
 zone-after n start w (step r ∷ es) =
     let xs : List Bound = zone-after n start w es in cond (is-empty xs) xs (closed-bounds n (floor (widen r (zone-in n xs))))
 zone-after n start w (reads r ∷ es) =
-    let xs : List Bound = zone-after n start w es in cond (w (r .gauge) || is-empty xs) xs (closed-bounds n (meet-reading r (zone-in n xs)))
+    let xs : List Bound = zone-after n start w es in
+    cond (w (r .gauge) || is-empty xs) xs (closed-bounds n (meet-reading r (zone-in n xs)))
 
 -- ---- all fault sets
 abbrev pub no-faults : FaultSet

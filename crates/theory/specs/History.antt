@@ -60,5 +60,9 @@ pub record AtMost (f g : ℕ) (w : FaultSet) : Type 0 where
 -- in each step as they may, and stayed over each reading, which is right unless its gauge is in the set.
 pub data History (n : ℕ) (start : Ranges) (w : FaultSet) : List Event → Levels → Type 0 where
   begin : (x : Levels) → Within n start x → History n start w [] x
-  moved : (x y : Levels) (r : Rates) (es : List Event) → History n start w es x → Moves n r x y → History n start w (step r ∷ es) y
-  agreed : (x : Levels) (r : Reading) (es : List Event) → History n start w es x → (w (r .gauge) ≡ false → Right r x) → History n start w (reads r ∷ es) x
+  moved :
+      (x y : Levels) (r : Rates) (es : List Event) → History n start w es x → Moves n r x y →
+      History n start w (step r ∷ es) y
+  agreed :
+      (x : Levels) (r : Reading) (es : List Event) → History n start w es x → (w (r .gauge) ≡ false → Right r x) →
+      History n start w (reads r ∷ es) x

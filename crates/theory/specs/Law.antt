@@ -31,7 +31,8 @@ Unique =
 abbrev pub First : Type 0
 First =
     (n : ℕ) (r : Ranges) → Ordered n r →
-    Canonical n (first-zone r) × ((x : Levels) → (Within n r x → In n (first-zone r) x) × (In n (first-zone r) x → Within n r x))
+    Canonical n (first-zone r)
+    × ((x : Levels) → (Within n r x → In n (first-zone r) x) × (In n (first-zone r) x → Within n r x))
 
 -- A step takes the levels of a canonical zone to just the levels of the widened zone, which is closed. The floor and a
 -- closing after it keep the levels, and leave the zone canonical.

@@ -12,8 +12,12 @@ use Rattle.theory.specs.History.{Reading, measured, Event, step, reads, FaultS
 -- moved in each step as they may, and stayed over each reading, whatever it said.
 pub data Trajectory (n : ℕ) (start : Ranges) : List Event → Levels → List Levels → Type 0 where
   began : (x : Levels) → Within n start x → Trajectory n start [] x []
-  stepped : (x y : Levels) (r : Rates) (es : List Event) (before : List Levels) → Trajectory n start es x before → Moves n r x y → Trajectory n start (step r ∷ es) y (x ∷ before)
-  stayed : (x : Levels) (r : Reading) (es : List Event) (before : List Levels) → Trajectory n start es x before → Trajectory n start (reads r ∷ es) x (x ∷ before)
+  stepped :
+      (x y : Levels) (r : Rates) (es : List Event) (before : List Levels) → Trajectory n start es x before → Moves n r x y →
+      Trajectory n start (step r ∷ es) y (x ∷ before)
+  stayed :
+      (x : Levels) (r : Reading) (es : List Event) (before : List Levels) → Trajectory n start es x before →
+      Trajectory n start (reads r ∷ es) x (x ∷ before)
 
 -- Whether a reading is right of the levels.
 abbrev pub right : Reading → Levels → Bool

@@ -33,8 +33,11 @@ Always-kept =
 abbrev pub Wrong-or-blamed : Type 0
 Wrong-or-blamed =
     (n g f : ℕ) (start : Ranges) (es : List Event) →
-    ((x : Levels) → (Possible n g f start es x → Explained n g f start es x) × (Explained n g f start es x → Possible n g f start es x))
-    × ((a : ℕ) → (Always-wrong n g f start es a → Always-blamed n g f start es a) × (Always-blamed n g f start es a → Always-wrong n g f start es a))
+    ((x : Levels) →
+    (Possible n g f start es x → Explained n g f start es x) × (Explained n g f start es x → Possible n g f start es x))
+    × ((a : ℕ) →
+    (Always-wrong n g f start es a → Always-blamed n g f start es a)
+    × (Always-blamed n g f start es a → Always-wrong n g f start es a))
 
 -- The bound that is computed over all fault sets, of any two numbers, is the upper end of their difference over all possible
 -- levels; and nothing is computed exactly where nothing is possible.
@@ -46,7 +49,8 @@ All-shown =
 -- No bound that holds in all possible levels is smaller than their upper end.
 abbrev pub Sharpest : Type 0
 Sharpest =
-    (n g f : ℕ) (start : Ranges) (es : List Event) (i j : ℕ) (b c : Bound) → Upper-end (Possible n g f start es) (λ x. difference x i j) b →
+    (n g f : ℕ) (start : Ranges) (es : List Event) (i j : ℕ) (b c : Bound) →
+    Upper-end (Possible n g f start es) (λ x. difference x i j) b →
     ((x : Levels) → Possible n g f start es x → Holds c (difference x i j)) → NoLarger b c
 
 -- A gauge is named exactly if it is wrong in all histories.
@@ -63,12 +67,14 @@ No-history =
 
 abbrev pub Stays-so : Type 0
 Stays-so =
-    (n g f : ℕ) (start : Ranges) (es : List Event) (e : Event) → None-possible n g f start es → None-possible n g f start (e ∷ es)
+    (n g f : ℕ) (start : Ranges) (es : List Event) (e : Event) →
+    None-possible n g f start es → None-possible n g f start (e ∷ es)
 
 -- A further reading never makes anything possible.
 abbrev pub Less-possible : Type 0
 Less-possible =
-    (n g f : ℕ) (start : Ranges) (es : List Event) (r : Reading) (x : Levels) → Possible n g f start (reads r ∷ es) x → Possible n g f start es x
+    (n g f : ℕ) (start : Ranges) (es : List Event) (r : Reading) (x : Levels) →
+    Possible n g f start (reads r ∷ es) x → Possible n g f start es x
 
 -- Two readings with no step between them may change places, whatever comes later: between two steps their order makes no
 -- difference.

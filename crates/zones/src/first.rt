@@ -3,11 +3,10 @@ ghost use mathlib.Core.Path.{_≡_};
 ghost use Prim.Native.Nat.{_+_, _*_, _≤_};
 ghost use lib.IntN.{pos};
 ghost use lib.ListN.{length};
-ghost use Rattle.refusal.specs.Order.{or-else};
-ghost use Rattle.std.specs.Results.{Cases};
-ghost use Rattle.std.specs.declared.option.Option.the-variants.{None, Some};
+ghost use Rattle.std.specs.declared.option.Option.the-variants.{None};
 ghost use Rattle.zones.specs.Change.{first-number, least-of, most-of, Starts};
-ghost use Rattle.zones.specs.Checks.{range-refused, size-refused};
+ghost use Rattle.zones.specs.Checks.{range-refused};
+ghost use Rattle.zones.specs.Says.{First-says};
 use crate::checks::check_ranges;
 use crate::checks::check_size;
 use crate::kinds::Range;
@@ -69,7 +68,7 @@ fn fill(basins: usize, ranges: &[Range], zone: &mut [i64])
 
 // Makes a zone that of the levels within the ranges, whatever it was.
 pub fn set_first(basins: usize, ranges: &[Range], zone: &mut [i64]) -> Result<(), Refusal>
-    ensures { λ r. ⌜ Cases r (λ _. (or-else (size-refused basins (length (now (zone .entry)))) (range-refused basins (now (ranges .entry))) ≡ None) × Starts basins (now (ranges .entry)) (now (zone .exit))) (λ e. (or-else (size-refused basins (length (now (zone .entry)))) (range-refused basins (now (ranges .entry))) ≡ Some e) × (now (zone .exit) ≡ now (zone .entry))) ⌝ }
+    ensures { λ r. ⌜ First-says basins (now (ranges .entry)) (now (zone .entry)) r (now (zone .exit)) ⌝ }
 {
     check_size(basins, zone.len())?;
     check_ranges(basins, ranges)?;

@@ -5,12 +5,11 @@ ghost use lib.IntN.{negℤ, pos};
 ghost use lib.ListN.{length, set};
 ghost use lib.Signed.{_≤ℤ_};
 ghost use Rattle.std.specs.Numbers.{minZ};
-ghost use Rattle.refusal.specs.Order.{or-else};
-ghost use Rattle.std.specs.Results.{Cases};
-ghost use Rattle.std.specs.declared.option.Option.the-variants.{None, Some};
+ghost use Rattle.std.specs.declared.option.Option.the-variants.{None};
 ghost use Rattle.zones.specs.Change.{Reads};
-ghost use Rattle.zones.specs.Checks.{reading-refused, size-refused};
+ghost use Rattle.zones.specs.Checks.{reading-refused};
 ghost use Rattle.zones.specs.Numbers.{cell};
+ghost use Rattle.zones.specs.Says.{Meet-says};
 use crate::checks::check_reading;
 use crate::checks::check_size;
 use crate::kinds::Reading;
@@ -51,7 +50,7 @@ fn meet_square(basins: usize, reading: Reading, zone: &mut [i64])
 
 // Leaves the levels of a zone at which a reading is right.
 pub fn meet(basins: usize, reading: Reading, zone: &mut [i64]) -> Result<(), Refusal>
-    ensures { λ r. ⌜ Cases r (λ _. (or-else (size-refused basins (length (now (zone .entry)))) (reading-refused basins reading) ≡ None) × Reads basins reading (now (zone .entry)) (now (zone .exit))) (λ e. (or-else (size-refused basins (length (now (zone .entry)))) (reading-refused basins reading) ≡ Some e) × (now (zone .exit) ≡ now (zone .entry))) ⌝ }
+    ensures { λ r. ⌜ Meet-says basins reading (now (zone .entry)) r (now (zone .exit)) ⌝ }
 {
     check_size(basins, zone.len())?;
     check_reading(basins, reading)?;

@@ -4,12 +4,11 @@ ghost use Prim.Native.Nat.{_+_, _*_, _<_, _≤_};
 ghost use lib.IntN.{pos};
 ghost use lib.ListN.{getD, length, set};
 ghost use Rattle.bounds.specs.Meaning.{total-sum};
-ghost use Rattle.refusal.specs.Order.{or-else};
-ghost use Rattle.std.specs.Results.{Cases};
-ghost use Rattle.std.specs.declared.option.Option.the-variants.{None, Some};
-ghost use Rattle.zones.specs.Change.{fall-of, rise-of, Steps};
-ghost use Rattle.zones.specs.Checks.{rate-refused, size-refused};
+ghost use Rattle.std.specs.declared.option.Option.the-variants.{None};
+ghost use Rattle.zones.specs.Change.{fall-of, rise-of};
+ghost use Rattle.zones.specs.Checks.{rate-refused};
 ghost use Rattle.zones.specs.Numbers.{Widens};
+ghost use Rattle.zones.specs.Says.{Step-says};
 use crate::checks::check_rates;
 use crate::checks::check_size;
 use crate::kinds::Rate;
@@ -69,7 +68,7 @@ fn widen(basins: usize, rates: &[Rate], zone: &mut [i64])
 
 // Widens a zone by what each level can do in a step, takes away the levels below 0, and closes it anew.
 pub fn step(basins: usize, rates: &[Rate], zone: &mut [i64]) -> Result<(), Refusal>
-    ensures { λ r. ⌜ Cases r (λ _. (or-else (size-refused basins (length (now (zone .entry)))) (rate-refused basins (now (rates .entry))) ≡ None) × Steps basins (now (rates .entry)) (now (zone .entry)) (now (zone .exit))) (λ e. (or-else (size-refused basins (length (now (zone .entry)))) (rate-refused basins (now (rates .entry))) ≡ Some e) × (now (zone .exit) ≡ now (zone .entry))) ⌝ }
+    ensures { λ r. ⌜ Step-says basins (now (rates .entry)) (now (zone .entry)) r (now (zone .exit)) ⌝ }
 {
     check_size(basins, zone.len())?;
     check_rates(basins, rates)?;

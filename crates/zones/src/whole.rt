@@ -1,17 +1,12 @@
 // A zone by itself: its closing, and whether it has levels.
-ghost use mathlib.Core.Path.{_≡_};
-ghost use lib.ListN.{length};
-ghost use Rattle.std.specs.Results.{Cases};
-ghost use Rattle.std.specs.declared.option.Option.the-variants.{None, Some};
-ghost use Rattle.zones.specs.Checks.{size-refused};
-ghost use Rattle.zones.specs.Numbers.{Closes, Tells-empty};
+ghost use Rattle.zones.specs.Says.{Close-says, Empty-says};
 use crate::checks::check_size;
 use crate::turns::close_square;
 use refusal::Refusal;
 
 // Brings a zone into the one form in which zones are kept, with the same levels.
 pub fn close(basins: usize, zone: &mut [i64]) -> Result<(), Refusal>
-    ensures { λ r. ⌜ Cases r (λ _. (size-refused basins (length (now (zone .entry))) ≡ None) × Closes basins (now (zone .entry)) (now (zone .exit))) (λ e. (size-refused basins (length (now (zone .entry))) ≡ Some e) × (now (zone .exit) ≡ now (zone .entry))) ⌝ }
+    ensures { λ r. ⌜ Close-says basins (now (zone .entry)) r (now (zone .exit)) ⌝ }
 {
     check_size(basins, zone.len())?;
     close_square(basins, zone);
@@ -20,7 +15,7 @@ pub fn close(basins: usize, zone: &mut [i64]) -> Result<(), Refusal>
 
 // Whether a zone that is kept has no levels: the datum would be below itself.
 pub fn is_empty(basins: usize, zone: &[i64]) -> Result<bool, Refusal>
-    ensures { λ r. ⌜ Cases r (λ empty. (size-refused basins (length (now (zone .entry))) ≡ None) × Tells-empty basins (now (zone .entry)) empty) (λ e. size-refused basins (length (now (zone .entry))) ≡ Some e) ⌝ }
+    ensures { λ r. ⌜ Empty-says basins (now (zone .entry)) r ⌝ }
 {
     check_size(basins, zone.len())?;
     let itself = zone[0];
