@@ -23,13 +23,15 @@ ordered (suc i) h = (lit≤ tt, omega (arith, ints))
 
 -- what is computed after k events of which each is placed
 module _ (k : ℕ) (pl : Placed 2 (so-far k)) where
-  name : (bs : List ℕ) (a : ℕ) → named 2 3 1 ranges (so-far k) a ≡ listed a bs → Decides (listed a bs) (Always-wrong 2 3 1 ranges (so-far k) a)
+  name : (bs : List ℕ) (a : ℕ) → named 2 3 1 ranges (so-far k) a ≡ listed a bs →
+      Decides (listed a bs) (Always-wrong 2 3 1 ranges (so-far k) a)
   name bs a e = subst (λ t. Decides t (Always-wrong 2 3 1 ranges (so-far k) a)) e (naming 2 3 1 ranges (so-far k) a ordered pl)
 
   abbrev Upper : ℕ → ℕ → ℤ → Type 0
   Upper i j c = upper-end 2 3 1 ranges (so-far k) i j ≡ Some (at-most c)
 
-  row : (s : Figures) → Upper 1 0 (s .one .1) → Upper 0 1 (negℤ (s .one .0)) → Upper 2 0 (s .two .1) → Upper 0 2 (negℤ (s .two .0)) → Upper 1 2 (s .less .1) → Upper 2 1 (negℤ (s .less .0)) → Names k (s .names) → Row k s
+  row : (s : Figures) → Upper 1 0 (s .one .1) → Upper 0 1 (negℤ (s .one .0)) → Upper 2 0 (s .two .1) →
+      Upper 0 2 (negℤ (s .two .0)) → Upper 1 2 (s .less .1) → Upper 2 1 (negℤ (s .less .0)) → Names k (s .names) → Row k s
   row s a b c d e f names = (
     level-spans 2 3 1 ranges (so-far k) ordered pl 1 (lit≤ tt) (s .one .0) (s .one .1) a b,
     level-spans 2 3 1 ranges (so-far k) ordered pl 2 (lit≤ tt) (s .two .0) (s .two .1) c d,
@@ -53,7 +55,8 @@ placed-8 = (lit≤ tt, lit≤ tt, (lit≤ tt, lit≤ tt, placed-5))
 placed-10 : Placed 2 (so-far 10)
 placed-10 = (lit≤ tt, lit≤ tt, (lit≤ tt, lit≤ tt, placed-8))
 
-names : (k : ℕ) → Placed 2 (so-far k) → (bs : List ℕ) → named 2 3 1 ranges (so-far k) 0 ≡ listed 0 bs → named 2 3 1 ranges (so-far k) 1 ≡ listed 1 bs → named 2 3 1 ranges (so-far k) 2 ≡ listed 2 bs → Names k bs
+names : (k : ℕ) → Placed 2 (so-far k) → (bs : List ℕ) → named 2 3 1 ranges (so-far k) 0 ≡ listed 0 bs →
+    named 2 3 1 ranges (so-far k) 1 ≡ listed 1 bs → named 2 3 1 ranges (so-far k) 2 ≡ listed 2 bs → Names k bs
 names k pl bs e f g = (name k pl bs 0 e, (name k pl bs 1 f, (name k pl bs 2 g, tt)))
 
 pub worked-example : Worked-example

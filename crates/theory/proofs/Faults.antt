@@ -69,7 +69,8 @@ listed-few (suc f) (suc g) =
     all-append (AtMost (suc f) (suc g)) (fault-sets (suc f) g) (map (with-fault g) (fault-sets f g))
     (all-weaker (AtMost (suc f) g) (AtMost (suc f) (suc g)) (one-more (suc f) g) (fault-sets (suc f) g) (listed-few (suc f) g))
     (all-map (AtMost (suc f) (suc g)) (with-fault g) (fault-sets f g)
-    (all-weaker (AtMost f g) (λ w. AtMost (suc f) (suc g) (with-fault g w)) (one-fault-more f g) (fault-sets f g) (listed-few f g)))
+    (all-weaker (AtMost f g) (λ w. AtMost (suc f) (suc g) (with-fault g w)) (one-fault-more f g) (fault-sets f g)
+    (listed-few f g)))
 
 -- ---- every set of at most f gauges below g is listed
 pub all-front : {X : Type 0} (P : X → Type 0) (xs ys : List X) → All P (xs ++ ys) → All P xs
@@ -120,7 +121,8 @@ of-listed P same (suc f) (suc g) h v m =
     let more : All P (map (with-fault g) less) = all-back P old (map (with-fault g) less) h in
     elim (cases-bool (v g)) [
       | inl e ↦ same (with-fault g (without g v)) v (with-without g v e)
-          (of-listed (λ w. P (with-fault g w)) (λ w u d. same (with-fault g w) (with-fault g u) (λ a. ap (λ t. eqb a g || t) (d a)))
+          (of-listed (λ w. P (with-fault g w)) (λ w u d. same (with-fault g w) (with-fault g u)
+          (λ a. ap (λ t. eqb a g || t) (d a)))
           f g (all-before-map P (with-fault g) less more) (without g v) (one-fault-less f g v e m))
       | inr e ↦ of-listed P same (suc f) g (all-front P old (map (with-fault g) less) h) v (one-less (suc f) g v e m)
     ]

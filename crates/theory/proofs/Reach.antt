@@ -67,12 +67,14 @@ module _ (n : ℕ) (z y : Zone) (cz : Canonical n z) (cy : Canonical n y) (sub :
   larger-by i j hi hj b none e f = tt
   larger-by i j hi hj none (at-most c) e f =
       let r = unbounded n z i j cz hi hj e (c +ℤ pos 1) in
-      let h : Holds (at-most c) (difference (r .0) i j) = subst (λ v. Holds v (difference (r .0) i j)) f (sub (r .0) (r .1) .holds i j hi hj) in
+      let h : Holds (at-most c) (difference (r .0) i j) = subst (λ v. Holds v (difference (r .0) i j)) f
+      (sub (r .0) (r .1) .holds i j hi hj) in
       let k : (c +ℤ pos 1) ≤ℤ difference (r .0) i j = r .2 in
       omega (arith, ints)
   larger-by i j hi hj (at-most b) (at-most c) e f =
       let r = reached n z i j b cz hi hj e in
-      let h : Holds (at-most c) (difference (r .0) i j) = subst (λ v. Holds v (difference (r .0) i j)) f (sub (r .0) (r .1) .holds i j hi hj) in
+      let h : Holds (at-most c) (difference (r .0) i j) = subst (λ v. Holds v (difference (r .0) i j)) f
+      (sub (r .0) (r .1) .holds i j hi hj) in
       let k : difference (r .0) i j ≡ b = r .2 in
       omega (arith, ints)
 
@@ -81,4 +83,5 @@ module _ (n : ℕ) (z y : Zone) (cz : Canonical n z) (cy : Canonical n y) (sub :
 
 pub unique : Unique
 unique n z y cz cy same i j hi hj =
-    no-larger-both (z i j) (y i j) (no-smaller n z y cz cy (λ x. same x .0) i j hi hj) (no-smaller n y z cy cz (λ x. same x .1) i j hi hj)
+    no-larger-both (z i j) (y i j) (no-smaller n z y cz cy (λ x. same x .0) i j hi hj)
+    (no-smaller n y z cy cz (λ x. same x .1) i j hi hj)

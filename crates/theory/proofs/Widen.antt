@@ -49,7 +49,8 @@ module _ (n : ℕ) (r : Rates) (z : Zone) (ca : Canonical n z) (y : Levels) (p :
   origin-below k hk = top-below n (λ i. left (y i) (r .rise i) (z i k)) (y k + r .fall k) (λ i hi. left-below i k hi hk)
 
   -- one of the numbers under the max for a keeps the bound c of a over b
-  left-keeps : (a b : ℕ) → a ≤ n → b ≤ n → (c : ℤ) → z a b ≡ at-most c → (i : ℕ) → i ≤ n → left (y i) (r .rise i) (z i a) ≤ origin n r z y b + up c - down c
+  left-keeps : (a b : ℕ) → a ≤ n → b ≤ n → (c : ℤ) → z a b ≡ at-most c → (i : ℕ) → i ≤ n →
+      left (y i) (r .rise i) (z i a) ≤ origin n r z y b + up c - down c
   left-keeps a b ha hb c e i hi =
       let u = ca .floored a ha in let v = ca .floored b hb in
       let s = ca .closed .through 0 b a (omega arith) hb ha in let t = ca .closed .through i b a hi hb ha in
@@ -82,7 +83,8 @@ module _ (n : ℕ) (r : Rates) (z : Zone) (ca : Canonical n z) (y : Levels) (p :
   pub origin-moves : Moves n r (origin n r z y) y
   origin-moves = record {
     datum = p .datum;
-    rises = λ k hk. let t = at-top n (λ i. left (y i) (r .rise i) (z i k)) k hk in let o = ca .closed .itself k hk in grind (arith, ints);
+    rises = λ k hk. let t = at-top n (λ i. left (y i) (r .rise i) (z i k)) k hk in
+        let o = ca .closed .itself k hk in grind (arith, ints);
     falls = origin-below;
   }
 
@@ -98,7 +100,8 @@ widen-closed n r z ca = record {
 -- the floor and a closing after it
 pub step-tame : (n : ℕ) (r : Rates) (z : Zone) → Canonical n z → Tame n (floor (widen r z))
 step-tame n r z ca i hi =
-    no-larger-trans (floor (widen r z) i i) (widen r z i i) zero-bound (floor-smaller (widen r z) i i) (no-larger-of (widen-closed n r z ca .itself i hi))
+    no-larger-trans (floor (widen r z) i i) (widen r z i i) zero-bound (floor-smaller (widen r z) i i)
+    (no-larger-of (widen-closed n r z ca .itself i hi))
 
 step-same : (n : ℕ) (r : Rates) (z : Zone) → Canonical n z → Same-levels n (widen r z) (close n (floor (widen r z)))
 step-same n r z ca x =
@@ -108,8 +111,15 @@ step-same n r z ca x =
 -- a step never empties a zone: the levels may stay
 pub stays : (n : ℕ) (r : Rates) (z : Zone) → Canonical n z → (x : Levels) × In n (widen r z) x
 stays n r z ca =
-    let s = some-levels n z ca in
-    (s .0, lands n r z (s .0) (s .0) (s .1) record { datum = s .1 .datum; rises = λ i hi. omega arith; falls = λ i hi. omega arith })
+    let s = some-levels n z ca in (
+      s .0,
+      lands n r z (s .0) (s .0) (s .1) record {
+        datum = s .1 .datum;
+        rises = λ i hi. omega arith;
+        falls =
+            λ i hi. omega arith;
+      },
+    )
 
 pub step-canonical : (n : ℕ) (r : Rates) (z : Zone) → Canonical n z → Canonical n (close n (floor (widen r z)))
 step-canonical n r z ca = record {
@@ -117,7 +127,8 @@ step-canonical n r z ca = record {
   floored = close-floored n (floor (widen r z)) (floor-floored n (widen r z));
 }
   where
-    go : Closed n (close n (floor (widen r z))) ⊎ ((k : ℕ) × (k ≤ n) × (negative (close n (floor (widen r z)) k k) ≡ true) × Empty n (floor (widen r z))) → Closed n (close n (floor (widen r z)))
+    go : Closed n (close n (floor (widen r z))) ⊎ ((k : ℕ) × (k ≤ n) × (negative (close n (floor (widen r z)) k k) ≡ true)
+        × Empty n (floor (widen r z))) → Closed n (close n (floor (widen r z)))
     go (inl c) = c
     go (inr (k, h, e, none-in)) = let s = stays n r z ca in absurd (none-in (s .0) (floor-same n (widen r z) (s .0) .0 (s .1)))
 

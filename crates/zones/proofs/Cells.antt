@@ -28,10 +28,12 @@ same-column n a b i j hb hj e =
     let p : b < n + 1 = omega arith in let q : j < n + 1 = omega arith in
     sym (mod-mul-add a (n + 1) b p) ∙ ap (λ v. v % (n + 1)) e ∙ mod-mul-add i (n + 1) j q
 
-pub cell-same : (n : ℕ) (xs : List ℤ) (i j : ℕ) (v : ℤ) → i ≤ n → j ≤ n → length xs ≡ (n + 1) * (n + 1) → cell n (set xs (place n i j) v) i j ≡ v
+pub cell-same : (n : ℕ) (xs : List ℤ) (i j : ℕ) (v : ℤ) → i ≤ n → j ≤ n → length xs ≡ (n + 1) * (n + 1) →
+    cell n (set xs (place n i j) v) i j ≡ v
 unfolding cell
 cell-same n xs i j v hi hj long = getD-set-same xs (place n i j) v (pos 0) (let p = place-within n i j hi hj in omega arith)
 
-pub cell-other : (n : ℕ) (xs : List ℤ) (i j a b : ℕ) (v : ℤ) → place n a b ≢ place n i j → cell n (set xs (place n i j) v) a b ≡ cell n xs a b
+pub cell-other : (n : ℕ) (xs : List ℤ) (i j a b : ℕ) (v : ℤ) → place n a b ≢ place n i j →
+    cell n (set xs (place n i j) v) a b ≡ cell n xs a b
 unfolding cell
 cell-other n xs i j a b v ne = getD-set-other xs (place n i j) (place n a b) v (pos 0) ne

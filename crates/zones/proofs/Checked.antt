@@ -23,8 +23,16 @@ use Rattle.zones.specs.Checks.{size-refused, reading-refused, range-ok, range-
 pub size-ok : (n len : ℕ) → size-refused n len ≡ None → (1 ≤ n) × (n ≤ 8) × (len ≡ (n + 1) * (n + 1))
 size-ok n len e = grind (arith, tells)
 
-pub reading-ok : (n : ℕ) (r : Reading) → reading-refused n r ≡ None → (r .first ≤ n) × (r .second ≤ n) × (r .low ≤ℤ r .high) × (negℤ (pos 1000000) ≤ℤ r .low) × (r .high ≤ℤ pos 1000000)
-reading-ok n r e = (grind (arith, tells), grind (arith, tells), grind (arith, ints, tells), grind (arith, ints, tells), grind (arith, ints, tells))
+pub reading-ok : (n : ℕ) (r : Reading) → reading-refused n r ≡ None → (r .first ≤ n) × (r .second ≤ n)
+    × (r .low ≤ℤ r .high) × (negℤ (pos 1000000) ≤ℤ r .low) × (r .high ≤ℤ pos 1000000)
+reading-ok n r e = (
+  grind (arith, tells),
+  grind (arith, tells),
+  grind (arith, ints, tells),
+  grind
+      (arith, ints, tells),
+  grind (arith, ints, tells),
+)
 
 -- of two checks neither refuses, or the first does, or the second alone
 pub neither : {A : Type 0} (a b : Option A) → a ≡ None → b ≡ None → or-else a b ≡ None
@@ -45,7 +53,8 @@ mapped-none f None e = refl
 mapped-none f (Some x) e = grind arith
 
 -- rates for each basin, within their limits
-pub rates-ok : (n : ℕ) (rs : List Rate) → rate-refused n rs ≡ None → (length rs ≡ n) × (first-bad rise-ok 0 rs ≡ None) × (first-bad fall-ok 0 rs ≡ None)
+pub rates-ok : (n : ℕ) (rs : List Rate) → rate-refused n rs ≡ None → (length rs ≡ n) × (first-bad rise-ok 0 rs ≡ None)
+    × (first-bad fall-ok 0 rs ≡ None)
 rates-ok n rs e =
     let a = both-none (when (not (eqb (length rs) n)) (refuses.Length (length rs))) _ e in
     let b = both-none (mapped (λ i. refuses.Rate (i + 1)) (first-bad rise-ok 0 rs)) _ (a .1) in

@@ -31,7 +31,8 @@ no-levels-cell n i j hi hj = getD-replicate ((n + 1) * (n + 1)) _ (negsuc 0) (po
 pub no-levels-empty : (n : ℕ) → Empty n (zone-of n (no-levels n))
 no-levels-empty n x p =
     let e = no-levels-cell n 0 0 (omega arith) (omega arith) in
-    below-itself (cell n (no-levels n) 0 0) (omega (arith, ints)) (subst (Holds (zone-of n (no-levels n) 0 0)) (difference-same x 0) (p .holds 0 0 (omega arith) (omega arith)))
+    below-itself (cell n (no-levels n) 0 0) (omega (arith, ints))
+    (subst (Holds (zone-of n (no-levels n) 0 0)) (difference-same x 0) (p .holds 0 0 (omega arith) (omega arith)))
 
 not-below : (v : ℤ) → bound-of v ≡ zero-bound → ltZ v (pos 0) ≡ false
 unfolding bound-of
@@ -47,10 +48,12 @@ pub closes-turned : (n : ℕ) (xs ys zs : List ℤ) → Settles n xs true ys →
 closes-turned n xs ys zs s t = record {
   levels = λ x. let u = s .levels x in let v = t .levels x in (λ p. v .0 (u .0 p), λ p. u .1 (v .1 p));
   form = inr (
-    λ i j hi hj. no-larger-trans (zone-of n zs i j) (zone-of n ys i j) (zone-of n xs i j) (t .smaller i j hi hj) (s .smaller i j hi hj),
+    λ i j hi hj. no-larger-trans (zone-of n zs i j) (zone-of n ys i j) (zone-of n xs i j) (t .smaller i j hi hj)
+        (s .smaller i j hi hj),
     λ sized. record {
       closed = t .closed refl (s .sized limit sized);
-      floored = λ i hi. no-larger-trans (zone-of n zs 0 i) (zone-of n ys 0 i) zero-bound (t .smaller 0 i (omega arith) hi) (s .floored refl i hi);
+      floored = λ i hi. no-larger-trans (zone-of n zs 0 i) (zone-of n ys 0 i) zero-bound (t .smaller 0 i (omega arith) hi)
+          (s .floored refl i hi);
     },
   );
 }
@@ -59,7 +62,10 @@ closes-turned n xs ys zs s t = record {
 pub tells-empty : (n : ℕ) (xs : List ℤ) (r : Bool) → r ≡ ltZ (cell n xs 0 0) (pos 0) → Tells-empty n xs r
 tells-empty n xs r e = record {
   test = e;
-  empty = λ t x p. let below : ltZ (cell n xs 0 0) (pos 0) ≡ true = sym e ∙ t in below-itself (cell n xs 0 0) (omega (arith, ints)) (subst (Holds (zone-of n xs 0 0)) (difference-same x 0) (p .holds 0 0 (omega arith) (omega arith)));
+  empty = λ t x p. let below : ltZ (cell n xs 0 0) (pos 0) ≡ true = sym e ∙ t in
+      below-itself (cell n xs 0 0) (omega (arith, ints)) (subst (Holds (zone-of n xs 0 0)) (difference-same x 0)
+      (p .holds 0 0 (omega arith) (omega arith)));
   kept = λ ca. e ∙ not-below (cell n xs 0 0) (ca .closed .itself 0 (omega arith));
-  none = λ is. e ∙ ap (λ v. ltZ v (pos 0)) (subst (λ vs. cell n vs 0 0 ≡ negsuc 0) (sym is) (no-levels-cell n 0 0 (omega arith) (omega arith)));
+  none = λ is. e ∙ ap (λ v. ltZ v (pos 0)) (subst (λ vs. cell n vs 0 0 ≡ negsuc 0) (sym is)
+      (no-levels-cell n 0 0 (omega arith) (omega arith)));
 }

@@ -24,7 +24,8 @@ module _ {A : Type 0} (d : A) (n : ℕ) (f : ℕ → ℕ → A → A) where
   pub filled-none : (p : ℕ) (xs : List A) → Filled d n f p p xs xs
   filled-none p xs = record { done = λ a b _ _ l h. absurd (omega arith); before = λ a b _ _ _. refl; after = λ a b _ _ _. refl }
 
-  pub filled-more : (lo mid hi : ℕ) (xs ys zs : List A) → lo ≤ mid → mid ≤ hi → Filled d n f lo mid xs ys → Filled d n f mid hi ys zs → Filled d n f lo hi xs zs
+  pub filled-more : (lo mid hi : ℕ) (xs ys zs : List A) → lo ≤ mid → mid ≤ hi → Filled d n f lo mid xs ys →
+      Filled d n f mid hi ys zs → Filled d n f lo hi xs zs
   filled-more lo mid hi xs ys zs l m t u = record {
     done = λ a b ha hb p q. ⊎-elim
         (λ h. u .before a b ha hb h ∙ t .done a b ha hb p h)
@@ -36,10 +37,13 @@ module _ {A : Type 0} (d : A) (n : ℕ) (f : ℕ → ℕ → A → A) where
 
   -- one place more of row i, written or left
   module _ (i j : ℕ) (xs ys : List A) (hi : i ≤ n) (hj : j ≤ n) (t : Filled d n f (place n i 0) (place n i j) xs ys) where
-    one-more : (zs : List A) → Filled d n f (place n i j) (place n i j + 1) ys zs → Filled d n f (place n i 0) (place n i (j + 1)) xs zs
-    one-more zs u = subst (λ p. Filled d n f (place n i 0) p xs zs) (omega arith) (filled-more (place n i 0) (place n i j) (place n i j + 1) xs ys zs (omega arith) (omega arith) t u)
+    one-more : (zs : List A) → Filled d n f (place n i j) (place n i j + 1) ys zs →
+        Filled d n f (place n i 0) (place n i (j + 1)) xs zs
+    one-more zs u = subst (λ p. Filled d n f (place n i 0) p xs zs) (omega arith)
+        (filled-more (place n i 0) (place n i j) (place n i j + 1) xs ys zs (omega arith) (omega arith) t u)
 
-    pub filled-write : (v : A) → length ys ≡ (n + 1) * (n + 1) → v ≡ f i j (at d n ys i j) → Filled d n f (place n i 0) (place n i (j + 1)) xs (set ys (place n i j) v)
+    pub filled-write : (v : A) → length ys ≡ (n + 1) * (n + 1) → v ≡ f i j (at d n ys i j) →
+        Filled d n f (place n i 0) (place n i (j + 1)) xs (set ys (place n i j) v)
     filled-write v long is = one-more (set ys (place n i j) v) record {
       done = λ a b ha hb l h.
           let e : place n a b ≡ place n i j = omega arith in
@@ -59,12 +63,15 @@ module _ {A : Type 0} (d : A) (n : ℕ) (f : ℕ → ℕ → A → A) where
     }
 
   -- a row is done
-  pub filled-row : (i j : ℕ) (xs ys zs : List A) → j ≡ n + 1 → Filled d n f 0 (place n i 0) xs ys → Filled d n f (place n i 0) (place n i j) ys zs → Filled d n f 0 (place n (i + 1) 0) xs zs
+  pub filled-row : (i j : ℕ) (xs ys zs : List A) → j ≡ n + 1 → Filled d n f 0 (place n i 0) xs ys →
+      Filled d n f (place n i 0) (place n i j) ys zs → Filled d n f 0 (place n (i + 1) 0) xs zs
   filled-row i j xs ys zs e t u =
-      subst (λ p. Filled d n f 0 p xs zs) (omega (arith, add-mul i 1 (n + 1))) (filled-more 0 (place n i 0) (place n i j) xs ys zs (omega arith) (omega arith) t u)
+      subst (λ p. Filled d n f 0 p xs zs) (omega (arith, add-mul i 1 (n + 1)))
+      (filled-more 0 (place n i 0) (place n i j) xs ys zs (omega arith) (omega arith) t u)
 
   -- all rows are done
-  pub filled-all : (i : ℕ) (xs ys : List A) → i ≡ n + 1 → Filled d n f 0 (place n i 0) xs ys → (a b : ℕ) → a ≤ n → b ≤ n → at d n ys a b ≡ f a b (at d n xs a b)
+  pub filled-all : (i : ℕ) (xs ys : List A) → i ≡ n + 1 → Filled d n f 0 (place n i 0) xs ys → (a b : ℕ) → a ≤ n → b ≤ n →
+      at d n ys a b ≡ f a b (at d n xs a b)
   filled-all i xs ys e t a b ha hb =
       let u : Filled d n f 0 (place n (n + 1) 0) xs ys = subst (λ k. Filled d n f 0 (place n k 0) xs ys) e t in
       let p = place-within n a b ha hb in u .done a b ha hb (omega arith) (omega arith)

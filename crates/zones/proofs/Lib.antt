@@ -7,3 +7,4 @@ pub mod Checked
 pub mod Meeting
 pub mod Stepping
 pub mod Starting
+pub mod Sizes

@@ -48,11 +48,13 @@ pub record Met (n p q : ℕ) (b : ℤ) (xs ys : List ℤ) : Type 0 where
   pub smaller : (i j : ℕ) → i ≤ n → j ≤ n → NoLarger (zone-of n ys i j) (zone-of n xs i j)
   pub sized : (h : ℕ) → Sized h (at-most b) → All-sized h n xs → All-sized h n ys
 
-pub met : (n : ℕ) (xs : List ℤ) (p q : ℕ) (b : ℤ) → p ≤ n → q ≤ n → length xs ≡ (n + 1) * (n + 1) → b ≤ℤ pos (2 ^ 62) → Met n p q b xs (set xs (place n p q) (minZ (cell n xs p q) b))
+pub met : (n : ℕ) (xs : List ℤ) (p q : ℕ) (b : ℤ) → p ≤ n → q ≤ n → length xs ≡ (n + 1) * (n + 1) → b ≤ℤ pos (2 ^ 62) →
+    Met n p q b xs (set xs (place n p q) (minZ (cell n xs p q) b))
 met n xs p q b hp hq long small =
     let z : Zone = zone-of n xs in
     let y : Zone = zone-of n (set xs (place n p q) (minZ (cell n xs p q) b)) in
-    let same : Same n (meet p q (at-most b) z) y = λ i j hi hj. write-meets n xs p q b _ hp hq long refl i j hi hj ∙ ap (λ v. meet p q v z i j) (bound-is b small) in
+    let same : Same n (meet p q (at-most b) z) y = λ i j hi hj. write-meets n xs p q b _ hp hq long refl i j hi hj
+    ∙ ap (λ v. meet p q v z i j) (bound-is b small) in
     let w = same-levels n (meet p q (at-most b) z) y same in
     let m = meeting n z p q (at-most b) hp hq in
     record {
@@ -65,23 +67,29 @@ met n xs p q b hp hq long small =
 -- ---- no levels stay none
 pub no-levels-sized : (n h : ℕ) → 1 ≤ h → All-sized h n (no-levels n)
 no-levels-sized n h le i j hi hj =
-    subst (Sized h) (sym (ap bound-of (no-levels-cell n i j hi hj) ∙ bound-is _ (omega (arith, ints)))) (omega (arith, ints), omega (arith, ints))
+    subst (Sized h) (sym (ap bound-of (no-levels-cell n i j hi hj)
+    ∙ bound-is _ (omega (arith, ints)))) (omega (arith, ints), omega (arith, ints))
 
 -- what a closing leaves of numbers without levels
 pub closes-none : (n : ℕ) (xs ys : List ℤ) → Closes n xs ys → All-sized limit n xs → Empty n (zone-of n xs) → ys ≡ no-levels n
 closes-none n xs ys c s none-in = go (c .form)
   where
-    go : (ys ≡ no-levels n) ⊎ (((i j : ℕ) → i ≤ n → j ≤ n → NoLarger (zone-of n ys i j) (zone-of n xs i j)) × (All-sized limit n xs → Canonical n (zone-of n ys))) → ys ≡ no-levels n
+    go : (ys ≡ no-levels n) ⊎ (((i j : ℕ) → i ≤ n → j ≤ n → NoLarger (zone-of n ys i j) (zone-of n xs i j))
+        × (All-sized limit n xs → Canonical n (zone-of n ys))) → ys ≡ no-levels n
     go (inl e) = e
     go (inr (sm, ca)) = let l = some-levels n (zone-of n ys) (ca s) in absurd (none-in (l .0) (c .levels (l .0) .1 (l .1)))
 
 -- ---- both writes, and the closing
-module _ (n : ℕ) (r : Reading) (xs ys zs ws : List ℤ) (low-ok : negℤ (pos 1000000) ≤ℤ r .low) (order : r .low ≤ℤ r .high) (high-ok : r .high ≤ℤ pos 1000000) (up : Met n (r .first) (r .second) (r .high) xs ys) (down : Met n (r .second) (r .first) (negℤ (r .low)) ys zs) (c : Closes n zs ws) where
+module _ (n : ℕ) (r : Reading) (xs ys zs ws : List ℤ) (low-ok : negℤ (pos 1000000) ≤ℤ r .low) (order : r .low ≤ℤ r .high)
+    (high-ok : r .high ≤ℤ pos 1000000) (up : Met n (r .first) (r .second) (r .high) xs ys)
+    (down : Met n (r .second) (r .first) (negℤ (r .low)) ys zs) (c : Closes n zs ws) where
   both-sized : (h : ℕ) → 1000000 ≤ h → All-sized h n xs → All-sized h n zs
-  both-sized h le s = down .sized h (omega (arith, ints), omega (arith, ints)) (up .sized h (omega (arith, ints), omega (arith, ints)) s)
+  both-sized h le s = down .sized h (omega (arith, ints), omega (arith, ints))
+      (up .sized h (omega (arith, ints), omega (arith, ints)) s)
 
   form-by :
-      (ws ≡ no-levels n) ⊎ (((i j : ℕ) → i ≤ n → j ≤ n → NoLarger (zone-of n ws i j) (zone-of n zs i j)) × (All-sized limit n zs → Canonical n (zone-of n ws))) →
+      (ws ≡ no-levels n) ⊎ (((i j : ℕ) → i ≤ n → j ≤ n → NoLarger (zone-of n ws i j) (zone-of n zs i j))
+      × (All-sized limit n zs → Canonical n (zone-of n ws))) →
       (ws ≡ no-levels n) ⊎ ((All-sized reach n xs → Canonical n (zone-of n ws)) × ((h : ℕ) → Roof h n xs → Roof h n ws))
   form-by (inl e) = inl e
   form-by (inr (sm, ca)) = inr (
@@ -96,8 +104,10 @@ module _ (n : ℕ) (r : Reading) (xs ys zs ws : List ℤ) (low-ok : negℤ (pos 
   reads = record {
     levels = λ a x.
         let d = difference-is x (r .first) (r .second) in let e = difference-is x (r .second) (r .first) in (
-          λ l k. let m : r .low ≤ℤ difference x (r .first) (r .second) = k .0 in c .levels x .0 (down .to x (up .to x l (k .1)) (omega (arith, ints))),
-          λ l. let v = down .from x (c .levels x .1 l) in let u = up .from x (v .0) in let m : difference x (r .second) (r .first) ≤ℤ negℤ (r .low) = v .1 in (u .0, (omega (arith, ints), u .1)),
+          λ l k. let m : r .low ≤ℤ difference x (r .first) (r .second) = k .0 in
+              c .levels x .0 (down .to x (up .to x l (k .1)) (omega (arith, ints))),
+          λ l. let v = down .from x (c .levels x .1 l) in let u = up .from x (v .0) in
+              let m : difference x (r .second) (r .first) ≤ℤ negℤ (r .low) = v .1 in (u .0, (omega (arith, ints), u .1)),
         );
     form = form-by (c .form);
     empty = λ e.

@@ -17,7 +17,8 @@ use Rattle.std.proofs.shelf.Ways.{tells}
 use Rattle.theory.specs.Bound.{Bound, none, at-most, Holds, NoLarger, sharper, zero-bound}
 use Rattle.theory.specs.Level.{Levels, difference}
 use Rattle.theory.specs.Zone.{Zone, In, Empty, Same-levels, Floored, meet}
-use Rattle.theory.proofs.Bounds.{difference-is, difference-same, no-larger-refl, no-larger-trans, no-larger-of, sharper-right, of-sharper}
+use Rattle.theory.proofs.Bounds.{difference-is, difference-same, no-larger-refl, no-larger-trans, no-larger-of}
+use Rattle.theory.proofs.Bounds.{sharper-right, of-sharper}
 use Rattle.theory.proofs.Meet.{in-larger, meet-smaller, meeting}
 use Rattle.theory.proofs.Track.{Same, same-levels}
 use Rattle.bounds.specs.Meaning.{bound-of, Sized}
@@ -39,13 +40,16 @@ below-zero : (v : ℤ) → v ≤ℤ pos 0 → NoLarger (bound-of v) zero-bound
 below-zero v h = subst (NoLarger (bound-of v)) (zero-is refl) (le-no-larger v (pos 0) h)
 
 -- ---- a write of the sharper of two is a meet
-pub write-meets : (n : ℕ) (xs : List ℤ) (p q : ℕ) (b v : ℤ) → p ≤ n → q ≤ n → length xs ≡ (n + 1) * (n + 1) → v ≡ minZ (cell n xs p q) b → Same n (meet p q (bound-of b) (zone-of n xs)) (zone-of n (set xs (place n p q) v))
+pub write-meets : (n : ℕ) (xs : List ℤ) (p q : ℕ) (b v : ℤ) → p ≤ n → q ≤ n → length xs ≡ (n + 1) * (n + 1) →
+    v ≡ minZ (cell n xs p q) b → Same n (meet p q (bound-of b) (zone-of n xs)) (zone-of n (set xs (place n p q) v))
 write-meets n xs p q b v hp hq long is i j hi hj = ⊎-elim
     (λ e.
     let r : i ≡ p = same-row n i j p q hj hq e in let s : j ≡ q = same-column n i j p q hj hq e in
-    let m : meet p q (bound-of b) (zone-of n xs) p q ≡ sharper (zone-of n xs p q) (bound-of b) = rw (eq-eqb p p refl, eq-eqb q q refl) in
+    let m : meet p q (bound-of b) (zone-of n xs) p q ≡ sharper (zone-of n xs p q) (bound-of b) =
+    rw (eq-eqb p p refl, eq-eqb q q refl) in
     rw (r, s) (ap bound-of (cell-same n xs p q v hp hq long ∙ is) ∙ sharper-means (cell n xs p q) b ∙ sym m))
-    (λ ne. ap bound-of (cell-other n xs p q i j v ne) ∙ sym (meet-other p q (bound-of b) (zone-of n xs) i j (λ r s. ne (ap₂ (place n) r s))))
+    (λ ne. ap bound-of (cell-other n xs p q i j v ne) ∙ sym
+    (meet-other p q (bound-of b) (zone-of n xs) i j (λ r s. ne (ap₂ (place n) r s))))
     (cases-eq (place n i j) (place n p q))
 
 -- ---- a bound that holds of all levels
@@ -57,7 +61,8 @@ pub record Kept-levels (n : ℕ) (xs ys : List ℤ) : Type 0 where
 pub kept-trans : (n : ℕ) (xs ys zs : List ℤ) → Kept-levels n xs ys → Kept-levels n ys zs → Kept-levels n xs zs
 kept-trans n xs ys zs a b = record {
   levels = λ x. let u = a .levels x in let v = b .levels x in (λ p. v .0 (u .0 p), λ p. u .1 (v .1 p));
-  smaller = λ i j hi hj. no-larger-trans (zone-of n zs i j) (zone-of n ys i j) (zone-of n xs i j) (b .smaller i j hi hj) (a .smaller i j hi hj);
+  smaller = λ i j hi hj. no-larger-trans (zone-of n zs i j) (zone-of n ys i j) (zone-of n xs i j) (b .smaller i j hi hj)
+      (a .smaller i j hi hj);
   sized = λ h s. b .sized h (a .sized h s);
 }
 
@@ -72,10 +77,13 @@ zero-meets p q z h i j s = by-test (eqb i p) (eqb j q)
     by-test true false = s
     by-test false t = s
 
-pub zero-write : (n : ℕ) (xs : List ℤ) (p q : ℕ) (v : ℤ) → p ≤ n → q ≤ n → length xs ≡ (n + 1) * (n + 1) → v ≡ minZ (cell n xs p q) (pos 0) → ((x : Levels) → x 0 ≡ 0 → difference x p q ≤ℤ pos 0) → Kept-levels n xs (set xs (place n p q) v)
+pub zero-write : (n : ℕ) (xs : List ℤ) (p q : ℕ) (v : ℤ) → p ≤ n → q ≤ n → length xs ≡ (n + 1) * (n + 1) →
+    v ≡ minZ (cell n xs p q) (pos 0) → ((x : Levels) → x 0 ≡ 0 → difference x p q ≤ℤ pos 0) →
+    Kept-levels n xs (set xs (place n p q) v)
 zero-write n xs p q v hp hq long is known =
     let z : Zone = zone-of n xs in
-    let same : Same n (meet p q zero-bound z) (zone-of n (set xs (place n p q) v)) = λ i j hi hj. write-meets n xs p q (pos 0) v hp hq long is i j hi hj ∙ ap (λ b. meet p q b z i j) (zero-is refl) in
+    let same : Same n (meet p q zero-bound z) (zone-of n (set xs (place n p q) v)) =
+    λ i j hi hj. write-meets n xs p q (pos 0) v hp hq long is i j hi hj ∙ ap (λ b. meet p q b z i j) (zero-is refl) in
     let w = same-levels n (meet p q zero-bound z) (zone-of n (set xs (place n p q) v)) same in
     let m = meeting n z p q zero-bound hp hq in
     record {
@@ -97,9 +105,11 @@ settled-none n xs = record {
   floored = λ i h. absurd (omega arith);
 }
 
-module _ (n j : ℕ) (xs ys : List ℤ) (u : ℤ) (hj : j ≤ n) (long : length ys ≡ (n + 1) * (n + 1)) (is : u ≡ minZ (cell n ys 0 j) (pos 0)) (s : Settled n j xs ys) where
+module _ (n j : ℕ) (xs ys : List ℤ) (u : ℤ) (hj : j ≤ n) (long : length ys ≡ (n + 1) * (n + 1))
+    (is : u ≡ minZ (cell n ys 0 j) (pos 0)) (s : Settled n j xs ys) where
   floor-kept : Kept-levels n xs (set ys (place n 0 j) u)
-  floor-kept = kept-trans n xs ys (set ys (place n 0 j) u) (s .kept) (zero-write n ys 0 j u (omega arith) hj long is (λ x o. let d = difference-is x 0 j in omega (arith, ints)))
+  floor-kept = kept-trans n xs ys (set ys (place n 0 j) u) (s .kept)
+      (zero-write n ys 0 j u (omega arith) hj long is (λ x o. let d = difference-is x 0 j in omega (arith, ints)))
 
   -- a number below itself
   pub settled-empty : cell n (set ys (place n 0 j) u) j j <ℤ pos 0 → Settles n xs false (set ys (place n 0 j) u)
@@ -109,11 +119,13 @@ module _ (n j : ℕ) (xs ys : List ℤ) (u : ℤ) (hj : j ≤ n) (long : length 
     itself = λ e. absurd (false≢true e);
     floored = λ e. absurd (false≢true e);
     sized = floor-kept .sized;
-    empty = λ _ x p. below-itself _ neg (subst (Holds (zone-of n (set ys (place n 0 j) u) j j)) (difference-same x j) (floor-kept .levels x .0 p .holds j j hj hj));
+    empty = λ _ x p. below-itself _ neg (subst (Holds (zone-of n (set ys (place n 0 j) u) j j)) (difference-same x j)
+        (floor-kept .levels x .0 p .holds j j hj hj));
   }
 
   -- one number more
-  pub settled-more : pos 0 ≤ℤ cell n (set ys (place n 0 j) u) j j → Settled n (j + 1) xs (set (set ys (place n 0 j) u) (place n j j) (pos 0))
+  pub settled-more : pos 0 ≤ℤ cell n (set ys (place n 0 j) u) j j →
+      Settled n (j + 1) xs (set (set ys (place n 0 j) u) (place n j j) (pos 0))
   settled-more ok =
       let y₁ : List ℤ = set ys (place n 0 j) u in
       let y₂ : List ℤ = set y₁ (place n j j) (pos 0) in
@@ -122,10 +134,12 @@ module _ (n j : ℕ) (xs ys : List ℤ) (u : ℤ) (hj : j ≤ n) (long : length 
       let at-0 : cell n y₁ 0 j ≡ u = cell-same n ys 0 j u (omega arith) hj long in
       let floor-j : cell n y₂ 0 j ≤ℤ pos 0 = ⊎-elim
       (λ z. let q : cell n y₂ 0 j ≡ pos 0 = subst (λ k. cell n y₂ k j ≡ pos 0) z at-j in omega (arith, ints))
-      (λ z. let o : cell n y₂ 0 j ≡ cell n y₁ 0 j = cell-other n y₁ j j 0 j (pos 0) (λ e. z (sym (same-row n 0 j j j hj hj e))) in omega (arith, ints, clamps))
+      (λ z. let o : cell n y₂ 0 j ≡ cell n y₁ 0 j = cell-other n y₁ j j 0 j (pos 0)
+      (λ e. z (sym (same-row n 0 j j j hj hj e))) in omega (arith, ints, clamps))
       (cases-eq j 0) in
       record {
-        kept = kept-trans n xs y₁ y₂ floor-kept (zero-write n y₁ j j (pos 0) hj hj long₁ (omega (arith, ints, clamps)) (λ x o. let d = difference-same x j in omega (arith, ints)));
+        kept = kept-trans n xs y₁ y₂ floor-kept (zero-write n y₁ j j (pos 0) hj hj long₁ (omega (arith, ints, clamps))
+            (λ x o. let d = difference-same x j in omega (arith, ints)));
         itself = λ i h hi. ⊎-elim
             (λ l.
             cell-other n y₁ j j i i (pos 0) (λ e. let r = same-row n i i j j hi hj e in omega arith)
@@ -135,8 +149,10 @@ module _ (n j : ℕ) (xs ys : List ℤ) (u : ℤ) (hj : j ≤ n) (long : length 
             (cases-lt i j);
         floored = λ i h hi. ⊎-elim
             (λ l.
-            let o : cell n y₂ 0 i ≡ cell n y₁ 0 i = cell-other n y₁ j j 0 i (pos 0) (λ e. let r = same-column n 0 i j j hi hj e in omega arith) in
-            let p : cell n y₁ 0 i ≡ cell n ys 0 i = cell-other n ys 0 j 0 i u (λ e. let r = same-column n 0 i 0 j hi hj e in omega arith) in
+            let o : cell n y₂ 0 i ≡ cell n y₁ 0 i = cell-other n y₁ j j 0 i (pos 0) (λ e. let r =
+            same-column n 0 i j j hi hj e in omega arith) in
+            let p : cell n y₁ 0 i ≡ cell n ys 0 i = cell-other n ys 0 j 0 i u (λ e. let r =
+            same-column n 0 i 0 j hi hj e in omega arith) in
             let f = s .floored i l hi in omega (arith, ints))
             (λ l. let e : i ≡ j = omega arith in rw e floor-j)
             (cases-lt i j);

@@ -38,13 +38,16 @@ most-at rs zero ne = absurd (ne refl)
 most-at rs (suc i) ne = ap (λ k. getD rs k (record { least = 0; most = 0 }) .most) (omega arith)
 
 -- each range is in order
-pub range-within : (n : ℕ) (rs : List Range) → range-refused n rs ≡ None → (i : ℕ) → i ≤ n → (least-of rs i ≤ most-of rs i) × (most-of rs i ≤ 100000)
+pub range-within : (n : ℕ) (rs : List Range) → range-refused n rs ≡ None → (i : ℕ) →
+    i ≤ n → (least-of rs i ≤ most-of rs i) × (most-of rs i ≤ 100000)
 range-within n rs e zero hi = (omega arith, omega arith)
 range-within n rs e (suc i) hi =
     let ok = ranges-ok n rs e in let l = ok .0 in
-    let t = each range-ok 0 rs i (record { least = 0; most = 0 }) (ok .1) (omega arith) in (grind (arith, tells), grind (arith, tells))
+    let t = each range-ok 0 rs i (record { least = 0; most = 0 }) (ok .1) (omega arith) in
+    (grind (arith, tells), grind (arith, tells))
 
-module _ (n : ℕ) (rs : List Range) (ys : List ℤ) (ok : range-refused n rs ≡ None) (filled : (i j : ℕ) → i ≤ n → j ≤ n → cell n ys i j ≡ first-number rs i j) where
+module _ (n : ℕ) (rs : List Range) (ys : List ℤ) (ok : range-refused n rs ≡ None) (filled : (i j : ℕ) → i ≤ n → j ≤ n →
+    cell n ys i j ≡ first-number rs i j) where
   ordered : Ordered n (ranges-of rs)
   ordered i hi = let r = range-within n rs ok i hi in (omega arith, omega (arith, ints))
 
@@ -54,7 +57,8 @@ module _ (n : ℕ) (rs : List Range) (ys : List ℤ) (ok : range-refused n rs �
       small : (a b : ℕ) → a ≤ n → b ≤ n → first-number rs a b ≤ℤ pos (2 ^ 62)
       small a b ha hb = let r = range-within n rs ok a ha in grind (arith, ints, tells)
 
-      same : (t : Bool) → at-most (cond t (pos 0) (pos (most-of rs i) -ℤ pos (least-of rs j))) ≡ cond t zero-bound (sum (at-most (pos (most-of rs i))) (at-most (negℤ (pos (least-of rs j)))))
+      same : (t : Bool) → at-most (cond t (pos 0) (pos (most-of rs i) -ℤ pos (least-of rs j))) ≡ cond t zero-bound
+          (sum (at-most (pos (most-of rs i))) (at-most (negℤ (pos (least-of rs j)))))
       same true = refl
       same false = refl
 

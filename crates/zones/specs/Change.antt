@@ -63,7 +63,8 @@ Roof h n xs = (i : ℕ) → i ≤ n → NoLarger (zone-of n xs i 0) (at-most (po
 -- ---- what is left
 -- The first zone is canonical, and has just the levels within the ranges, of which none is above 100,000.
 pub record Starts (n : ℕ) (rs : List Range) (ys : List ℤ) : Type 0 where
-  pub levels : (x : Levels) → (Within n (ranges-of rs) x → In n (zone-of n ys) x) × (In n (zone-of n ys) x → Within n (ranges-of rs) x)
+  pub levels : (x : Levels) → (Within n (ranges-of rs) x → In n (zone-of n ys) x)
+      × (In n (zone-of n ys) x → Within n (ranges-of rs) x)
   pub canonical : Canonical n (zone-of n ys)
   pub roof : Roof 100000 n ys
 
@@ -73,7 +74,8 @@ pub record Steps (n : ℕ) (rs : List Rate) (xs ys : List ℤ) : Type 0 where
   pub sound : (x y : Levels) → In n (zone-of n xs) x → Moves n (rates-of rs) x y → In n (zone-of n ys) y
   pub exact :
       Canonical n (zone-of n xs) → All-sized reach n xs →
-      Canonical n (zone-of n ys) × ((y : Levels) → In n (zone-of n ys) y → (x : Levels) × In n (zone-of n xs) x × Moves n (rates-of rs) x y)
+      Canonical n (zone-of n ys) × ((y : Levels) → In n (zone-of n ys) y → (x : Levels) × In n (zone-of n xs) x
+      × Moves n (rates-of rs) x y)
   pub roof : (h : ℕ) → h ≤ reach → Canonical n (zone-of n xs) → Roof h n xs → Roof (h + 10000) n ys
   pub empty : xs ≡ no-levels n → ys ≡ no-levels n
 

@@ -2,3 +2,4 @@ pub mod Numbers
 pub mod Checks
 pub mod Change
 pub mod Says
+pub mod Run

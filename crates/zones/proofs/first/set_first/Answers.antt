@@ -10,6 +10,8 @@ fill-requires c κs =
 
 pub returns : need.returns
 returns c = (
-  neither (size-refused (c .args .basins) (length (c .args .zone .now))) (range-refused (c .args .basins) (c .args .ranges .now)) (c .in-Continue-check-size .ensures tt) (c .in-Continue-check-ranges .ensures tt),
+  neither (size-refused (c .args .basins) (length (c .args .zone .now)))
+      (range-refused (c .args .basins) (c .args .ranges .now)) (c .in-Continue-check-size .ensures tt)
+      (c .in-Continue-check-ranges .ensures tt),
   c .fill .ensures,
 )

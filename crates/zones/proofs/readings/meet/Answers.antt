@@ -12,5 +12,9 @@ meet-square-requires c κs =
     record { size = (ok .1, ok .2); checked = c .in-Continue-check-reading .ensures tt }
 
 pub returns : need.returns
-returns c =
-    (neither (size-refused (c .args .basins) (length (c .args .zone .now))) (reading-refused (c .args .basins) (c .args .reading)) (c .in-Continue-check-size .ensures tt) (c .in-Continue-check-reading .ensures tt), c .meet-square .ensures)
+returns c = (
+  neither (size-refused (c .args .basins) (length (c .args .zone .now)))
+      (reading-refused (c .args .basins) (c .args .reading)) (c .in-Continue-check-size .ensures tt)
+      (c .in-Continue-check-reading .ensures tt),
+  c .meet-square .ensures,
+)

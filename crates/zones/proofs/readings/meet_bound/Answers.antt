@@ -12,10 +12,12 @@ use Rattle.zones.proofs.Cells.{place, place-within}
 use Rattle.zones.proofs.readings.meet_bound.Needs as need
 
 pub slice-copy-out·own : need.slice-copy-out·own
-slice-copy-out·own c = let p = place-within (c .args .basins) (c .args .first) (c .args .second) (omega arith) (omega arith) in omega arith
+slice-copy-out·own c = let p = place-within (c .args .basins) (c .args .first) (c .args .second) (omega arith)
+    (omega arith) in omega arith
 
 pub index-zone-at : need.index-zone-at
-index-zone-at c = let p = place-within (c .args .basins) (c .args .first) (c .args .second) (omega arith) (omega arith) in omega arith
+index-zone-at c = let p = place-within (c .args .basins) (c .args .first) (c .args .second) (omega arith) (omega arith) in
+    omega arith
 
 pub returns : need.returns
 unfolding cell

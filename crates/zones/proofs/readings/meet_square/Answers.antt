@@ -31,9 +31,17 @@ returns c =
     let lo : SFits w64 (r .low) = search needs in
     let o : SFits w64 (c .opposite .result) = search needs in
     let flip : c .opposite .result ≡ negℤ (r .low) = simp toZ-ofZ at (c .opposite .ensures) in
-    let e : ys ≡ set xs (place n (r .first) (r .second)) (minZ (cell n xs (r .first) (r .second)) (r .high)) = simp (toZ-ofZ, c .from-first .ensures, c .from-second .ensures) at (c .meet-bound .ensures) in
-    let f : zs ≡ set ys (place n (r .second) (r .first)) (minZ (cell n ys (r .second) (r .first)) (negℤ (r .low))) = simp (toZ-ofZ, c .from-first .ensures, c .from-second .ensures) at (c .meet-bound-2 .ensures) ∙ ap (λ v. set ys (place n (r .second) (r .first)) (minZ (cell n ys (r .second) (r .first)) v)) flip in
+    let e : ys ≡ set xs (place n (r .first) (r .second)) (minZ (cell n xs (r .first) (r .second)) (r .high)) =
+    simp (toZ-ofZ, c .from-first .ensures, c .from-second .ensures) at (c .meet-bound .ensures) in
+    let f : zs ≡ set ys (place n (r .second) (r .first)) (minZ (cell n ys (r .second) (r .first)) (negℤ (r .low))) =
+    simp (toZ-ofZ, c .from-first .ensures, c .from-second .ensures) at (c .meet-bound-2 .ensures)
+    ∙ ap (λ v. set ys (place n (r .second) (r .first)) (minZ (cell n ys (r .second) (r .first)) v)) flip in
     let long : length ys ≡ (n + 1) * (n + 1) = omega arith in
-    let up : Met n (r .first) (r .second) (r .high) xs ys = subst (Met n (r .first) (r .second) (r .high) xs) (sym e) (met n xs (r .first) (r .second) (r .high) (ok .0) (ok .1) (c .pre .size .1) (let q = ok .4 in omega (arith, ints))) in
-    let down : Met n (r .second) (r .first) (negℤ (r .low)) ys zs = subst (Met n (r .second) (r .first) (negℤ (r .low)) ys) (sym f) (met n ys (r .second) (r .first) (negℤ (r .low)) (ok .1) (ok .0) long (let q = ok .3 in omega (arith, ints))) in
+    let up : Met n (r .first) (r .second) (r .high) xs ys =
+    subst (Met n (r .first) (r .second) (r .high) xs) (sym e)
+    (met n xs (r .first) (r .second) (r .high) (ok .0) (ok .1) (c .pre .size .1) (let q = ok .4 in
+    omega (arith, ints))) in
+    let down : Met n (r .second) (r .first) (negℤ (r .low)) ys zs =
+    subst (Met n (r .second) (r .first) (negℤ (r .low)) ys) (sym f)
+    (met n ys (r .second) (r .first) (negℤ (r .low)) (ok .1) (ok .0) long (let q = ok .3 in omega (arith, ints))) in
     reads n r xs ys zs (c .close-square .last .zone) (ok .3) (ok .2) (ok .4) up down (c .close-square .ensures)

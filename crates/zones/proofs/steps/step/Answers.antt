@@ -11,6 +11,9 @@ widen-requires c κs =
 
 pub returns : need.returns
 returns c = (
-  neither (size-refused (c .args .basins) (length (c .args .zone .now))) (rate-refused (c .args .basins) (c .args .rates .now)) (c .in-Continue-check-size .ensures tt) (c .in-Continue-check-rates .ensures tt),
-  steps (c .args .basins) (c .args .rates .now) (c .args .zone .now) (c .widen .last .zone) (c .close-square .last .zone) (c .in-Continue-check-rates .ensures tt) (c .widen .ensures) (c .close-square .ensures),
+  neither (size-refused (c .args .basins) (length (c .args .zone .now)))
+      (rate-refused (c .args .basins) (c .args .rates .now)) (c .in-Continue-check-size .ensures tt)
+      (c .in-Continue-check-rates .ensures tt),
+  steps (c .args .basins) (c .args .rates .now) (c .args .zone .now) (c .widen .last .zone) (c .close-square .last .zone)
+      (c .in-Continue-check-rates .ensures tt) (c .widen .ensures) (c .close-square .ensures),
 )

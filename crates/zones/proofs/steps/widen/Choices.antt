@@ -12,4 +12,5 @@ abbrev pub Inv-loop-i : given.InvT-loop-i
 Inv-loop-i l = Filled (pos 0) (l .basins) (grow (l .rates)) 0 (place (l .basins) (l .i) 0) (l .entry .zone) (l .zone)
 
 abbrev pub Inv-loop-j : given.InvT-loop-j
-Inv-loop-j l = Filled (pos 0) (l .basins) (grow (l .rates)) (place (l .basins) (l .i) 0) (place (l .basins) (l .i) (l .j)) (l .entry .zone) (l .zone)
+Inv-loop-j l = Filled (pos 0) (l .basins) (grow (l .rates)) (place (l .basins) (l .i) 0) (place (l .basins) (l .i) (l .j))
+    (l .entry .zone) (l .zone)

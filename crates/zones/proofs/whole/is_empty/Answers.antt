@@ -16,5 +16,8 @@ use Rattle.zones.proofs.whole.is_empty.Needs as need
 pub returns : need.returns
 unfolding cell
 returns c =
-    let own : SFits w64 (getD (c .args .zone .now) 0 (pos 0)) = search needs in
-    (c .in-Continue-check-size .ensures tt, tells-empty (c .args .basins) (c .args .zone .now) _ (ap (λ v. ltZ v (pos 0)) (toZ-ofZ w64 _ own ∙ ap (λ p. getD (c .args .zone .now) p (pos 0)) (omega arith))))
+    let own : SFits w64 (getD (c .args .zone .now) 0 (pos 0)) = search needs in (
+      c .in-Continue-check-size .ensures tt,
+      tells-empty (c .args .basins) (c .args .zone .now) _
+          (ap (λ v. ltZ v (pos 0)) (toZ-ofZ w64 _ own ∙ ap (λ p. getD (c .args .zone .now) p (pos 0)) (omega arith))),
+    )
