@@ -15,6 +15,7 @@ use Rattle.std.specs.declared.option.Option.the-variants.{Some, None}
 use Rattle.std.specs.Options.{mapped}
 use Rattle.refusal.specs.Order.{when, or-else, first-bad}
 use Rattle.refusal.specs.declared.kinds.Refusal.the-variants as refuses
+use Rattle.refusal.proofs.Orders.{both-none, mapped-none}
 use Rattle.zones.specs.declared.kinds.Reading.{Reading}
 use Rattle.zones.specs.declared.kinds.Range.{Range}
 use Rattle.zones.specs.declared.kinds.Rate.{Rate}
@@ -33,24 +34,6 @@ reading-ok n r e = (
       (arith, ints, tells),
   grind (arith, ints, tells),
 )
-
--- of two checks neither refuses, or the first does, or the second alone
-pub neither : {A : Type 0} (a b : Option A) → a ≡ None → b ≡ None → or-else a b ≡ None
-neither a b e f = ap (λ v. or-else v b) e ∙ f
-
-pub first-refuses : {A : Type 0} (a b : Option A) (x : A) → a ≡ Some x → or-else a b ≡ Some x
-first-refuses a b x e = ap (λ v. or-else v b) e
-
-pub second-refuses : {A : Type 0} (a b : Option A) (x : A) → a ≡ None → b ≡ Some x → or-else a b ≡ Some x
-second-refuses a b x e f = ap (λ v. or-else v b) e ∙ f
-
-pub both-none : {A : Type 0} (a b : Option A) → or-else a b ≡ None → (a ≡ None) × (b ≡ None)
-both-none None b e = (refl, e)
-both-none (Some x) b e = grind arith
-
-pub mapped-none : {A B : Type 0} (f : A → B) (o : Option A) → mapped f o ≡ None → o ≡ None
-mapped-none f None e = refl
-mapped-none f (Some x) e = grind arith
 
 -- rates for each basin, within their limits
 pub rates-ok : (n : ℕ) (rs : List Rate) → rate-refused n rs ≡ None → (length rs ≡ n) × (first-bad rise-ok 0 rs ≡ None)

@@ -8,3 +8,6 @@ pub mod Meeting
 pub mod Stepping
 pub mod Starting
 pub mod Sizes
+pub mod Growing
+pub mod Flooring
+pub mod Lending

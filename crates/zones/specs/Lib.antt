@@ -3,3 +3,4 @@ pub mod Checks
 pub mod Change
 pub mod Says
 pub mod Run
+pub mod Lent

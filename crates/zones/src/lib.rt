@@ -6,6 +6,7 @@
 mod checks;
 mod first;
 mod kinds;
+mod lent;
 mod readings;
 mod steps;
 mod turns;
@@ -15,6 +16,7 @@ pub use first::set_first;
 pub use kinds::Range;
 pub use kinds::Rate;
 pub use kinds::Reading;
+pub use lent::widen_zone;
 pub use readings::meet;
 pub use steps::step;
 pub use whole::close;

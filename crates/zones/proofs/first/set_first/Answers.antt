@@ -1,6 +1,7 @@
 use lib.ListN.{length}
 use Rattle.zones.specs.Checks.{size-refused, range-refused}
-use Rattle.zones.proofs.Checked.{size-ok, neither}
+use Rattle.refusal.proofs.Orders.{neither}
+use Rattle.zones.proofs.Checked.{size-ok}
 use Rattle.zones.proofs.first.set_first.Needs as need
 
 pub fill-requires : need.fill-requires

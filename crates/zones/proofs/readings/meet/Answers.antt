@@ -3,7 +3,8 @@ use lib.ListN.{length}
 use Rattle.std.specs.declared.option.Option.the-variants.{None}
 use Rattle.refusal.specs.Order.{or-else}
 use Rattle.zones.specs.Checks.{size-refused, reading-refused}
-use Rattle.zones.proofs.Checked.{size-ok, neither}
+use Rattle.refusal.proofs.Orders.{neither}
+use Rattle.zones.proofs.Checked.{size-ok}
 use Rattle.zones.proofs.readings.meet.Needs as need
 
 pub meet-square-requires : need.meet-square-requires

@@ -1,6 +1,7 @@
 use lib.ListN.{length}
 use Rattle.zones.specs.Checks.{size-refused, rate-refused}
-use Rattle.zones.proofs.Checked.{size-ok, neither}
+use Rattle.refusal.proofs.Orders.{neither}
+use Rattle.zones.proofs.Checked.{size-ok}
 use Rattle.zones.proofs.Stepping.{steps}
 use Rattle.zones.proofs.steps.step.Needs as need
 
