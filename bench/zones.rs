@@ -13,11 +13,22 @@ struct Reading {
     high: i64,
 }
 
+// As in crate bounds: with saturating_add a closing takes a quarter longer.
 fn sum(a: i64, b: i64) -> i64 {
-    if a == NONE || b == NONE {
+    if a == NONE {
+        NONE
+    } else if a < 0 {
+        if b == NONE {
+            NONE
+        } else if b < i64::MIN - a {
+            i64::MIN
+        } else {
+            a + b
+        }
+    } else if b >= NONE - a {
         NONE
     } else {
-        a.saturating_add(b)
+        a + b
     }
 }
 
