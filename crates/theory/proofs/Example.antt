@@ -17,7 +17,7 @@ use Rattle.theory.specs.Computed.{upper-end, no-history, named}
 use Rattle.theory.specs.Example.{ranges, so-far, listed, Names, Figures, Row, row-2, row-3, row-4, row-5, row-8, Worked-example}
 use Rattle.theory.proofs.Shown.{spans-of, level-spans, naming, no-history-told}
 
-ordered : Ordered 2 ranges
+pub ordered : Ordered 2 ranges
 ordered zero h = (lit≤ tt, omega (arith, ints))
 ordered (suc i) h = (lit≤ tt, omega (arith, ints))
 
@@ -40,7 +40,7 @@ module _ (k : ℕ) (pl : Placed 2 (so-far k)) where
   )
 
 -- each reading is of levels of the plant
-placed-2 : Placed 2 (so-far 2)
+pub placed-2 : Placed 2 (so-far 2)
 placed-2 = (lit≤ tt, lit≤ tt, (lit≤ tt, lit≤ tt, tt))
 
 placed-3 : Placed 2 (so-far 3)

@@ -10,3 +10,4 @@ pub mod Faults
 pub mod Trajectories
 pub mod Shown
 pub mod Example
+pub mod Uses
