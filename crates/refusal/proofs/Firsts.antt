@@ -16,7 +16,8 @@ module _ {A : Type 0} (ok : A → Bool) (xs : List A) where
   abbrev pub Passed : ℕ → Type 0
   Passed i = first-bad ok 0 xs ≡ first-bad ok i (drop i xs)
 
-  one : (i : ℕ) (d : A) → i < length xs → Passed i → first-bad ok 0 xs ≡ cond (ok (getD xs i d)) (first-bad ok (i + 1) (drop (i + 1) xs)) (Some i)
+  one : (i : ℕ) (d : A) → i < length xs → Passed i → first-bad ok 0 xs ≡ cond (ok (getD xs i d))
+      (first-bad ok (i + 1) (drop (i + 1) xs)) (Some i)
   one i d h inv = inv ∙ ap (first-bad ok i) (drop-more xs i d h)
 
   -- element i fails
@@ -36,7 +37,8 @@ passes true o i e = (refl, e)
 passes false o i e = grind arith
 
 -- where none fails, each passes
-pub each : {A : Type 0} (ok : A → Bool) (i : ℕ) (xs : List A) (k : ℕ) (d : A) → first-bad ok i xs ≡ None → k < length xs → ok (getD xs k d) ≡ true
+pub each : {A : Type 0} (ok : A → Bool) (i : ℕ) (xs : List A) (k : ℕ) (d : A) → first-bad ok i xs ≡ None → k < length xs →
+    ok (getD xs k d) ≡ true
 each ok i [] k d e h = absurd (omega arith)
 each ok i (x ∷ xs) zero d e h = passes (ok x) (first-bad ok (i + 1) xs) i e .0
 each ok i (x ∷ xs) (suc k) d e h = each ok (i + 1) xs k d (passes (ok x) (first-bad ok (i + 1) xs) i e .1) (omega arith)

@@ -1,7 +1,10 @@
 -- The number and the place of each refusal. Assumes nothing: these are definitions.
 use Prim.Native.Nat.{ℕ}
 use Rattle.refusal.specs.declared.kinds.Refusal.{Refusal}
-use Rattle.refusal.specs.declared.kinds.Refusal.the-variants.{Basins, Gauges, Wrong, Length, Rate, ZoneNumber, Range, Placement, NoGauge, LowAboveHigh, PastMillion, NoBasin, SameBasin, Steps, HistoryLength, TooManyBlamed, BlamedPastPlant}
+use Rattle.refusal.specs.declared.kinds.Refusal.the-variants.{Basins, Gauges, Wrong, Length, Rate, ZoneNumber, Range}
+use Rattle.refusal.specs.declared.kinds.Refusal.the-variants.{Placement, NoGauge, LowAboveHigh, PastMillion, NoBasin}
+use Rattle.refusal.specs.declared.kinds.Refusal.the-variants.{SameBasin, Steps, HistoryLength, TooManyBlamed}
+use Rattle.refusal.specs.declared.kinds.Refusal.the-variants.{BlamedPastPlant}
 
 -- The numbers are also the order of the checks: what is refused is refused by the smallest that applies.
 abbrev pub number-of : Refusal → ℕ

@@ -42,7 +42,8 @@ entryOf w [] = named ((codes "step", Step) ∷ (codes "show", Show) ∷ []) w
 entryOf w (a ∷ []) = named ((codes "basins", Basins a) ∷ (codes "gauges", Gauges a) ∷ (codes "wrong", Wrong a) ∷ []) w
 entryOf w (a ∷ b ∷ []) = None
 entryOf w (a ∷ b ∷ c ∷ []) =
-    named ((codes "range", Range a b c) ∷ (codes "rate", Rate a b c) ∷ (codes "gauge", Gauge a b c) ∷ (codes "read", Read a b c) ∷ []) w
+    named ((codes "range", Range a b c) ∷ (codes "rate", Rate a b c) ∷ (codes "gauge", Gauge a b c) ∷
+    (codes "read", Read a b c) ∷ []) w
 entryOf w (a ∷ b ∷ c ∷ d ∷ zs) = None
 
 entry-back : (e : Entry) → entryOf (name e) (numbers e) ≡ Some e
@@ -191,8 +192,11 @@ spaced-words (z ∷ zs) h =
 
 spaced-plain : (zs : List ℤ) → All Fits zs → All (λ c. 32 ≤ c) (spaced zs)
 spaced-plain [] h = tt
-spaced-plain (z ∷ zs) h =
-    (omega arith, all-append (λ c. 32 ≤ c) (signed z) (spaced zs) (all-weaker Mark (λ c. 32 ≤ c) (λ c k. k .1) (signed z) (signed-marks z (h .0))) (spaced-plain zs (h .1)))
+spaced-plain (z ∷ zs) h = (
+  omega arith,
+  all-append (λ c. 32 ≤ c) (signed z) (spaced zs)
+      (all-weaker Mark (λ c. 32 ≤ c) (λ c k. k .1) (signed z) (signed-marks z (h .0))) (spaced-plain zs (h .1)),
+)
 
 -- by computing
 marked : List ℕ → Bool
@@ -224,7 +228,8 @@ module _ (e : Entry) (fit : Fit e) where
 
   written-words : words (written e) ≡ name e ∷ map signed (numbers e)
   written-words =
-      ap (split []) (ap (λ l. chopped 13 l) (chop-same 10 (written e) (lit< tt) written-plain) ∙ chop-same 13 (written e) (lit< tt) written-plain)
+      ap (split []) (ap (λ l. chopped 13 l) (chop-same 10 (written e) (lit< tt) written-plain)
+      ∙ chop-same 13 (written e) (lit< tt) written-plain)
       ∙ word-first (name e) (spaced (numbers e)) (letters (name e) (name-marks e .0)) (name-marks e .1) (spaced-next (numbers e))
       ∙ ap (λ ws. name e ∷ ws) (spaced-words (numbers e) fit)
 

@@ -23,7 +23,8 @@ use Rattle.std.specs.declared.option.Option.{Option}
 use Rattle.std.specs.declared.option.Option.the-variants.{Some, None}
 use Rattle.std.specs.declared.result.Result.{Result}
 use Rattle.std.specs.declared.result.Result.the-variants.{Ok, Err}
-use Rattle.std.proofs.shelf.Numerals.{Numerals, numerals-by-fold, converted-at-ok, converted-at-err, parse-signed-minus, parse-signed-digits}
+use Rattle.std.proofs.shelf.Numerals.{Numerals, numerals-by-fold, converted-at-ok, converted-at-err, parse-signed-minus}
+use Rattle.std.proofs.shelf.Numerals.{parse-signed-digits}
 use Rattle.std.proofs.shelf.Signed.{toZ-ofZ}
 use Rattle.std.proofs.shelf.Ways.{tells}
 use Rattle.text.specs.Numbers.{digits, numeral, readOn, value, Fits, Number}
@@ -89,7 +90,8 @@ pub number-taken : {E : Type 0} (w : List ℕ) (r : Result ℤ E) (x : ℤ) → 
     → numeral w ≡ true → r ≡ Ok x → Number w (toZ w64 (ofZ w64 x))
 number-taken w r x h n e =
     let k = converted-at-ok r _ _ x (parsed w r h n) e in
-    let back : toZ w64 (ofZ w64 x) ≡ value w = ap (λ y. toZ w64 (ofZ w64 y)) (k .1) ∙ toZ-ofZ w64 (value w) (record { sfits = k .0 }) in
+    let back : toZ w64 (ofZ w64 x) ≡ value w = ap (λ y. toZ w64 (ofZ w64 y)) (k .1)
+    ∙ toZ-ofZ w64 (value w) (record { sfits = k .0 }) in
     record { spelled = n; valued = sym back; fits = subst Fits (sym back) (k .0) }
 
 pub number-refused : {E : Type 0} (w : List ℕ) (r : Result ℤ E) (d : E) → ReadsSigned w64 10 w r

@@ -41,7 +41,8 @@ same = unique 2 (first-zone ranges) (first-zone ranges) canonical canonical (λ 
 
 still-there : In 2 (first-zone ranges) (at-100 .0)
 still-there = meeting 2 (first-zone ranges) 1 0 (at-most (pos 100)) (lit≤ tt) (lit≤ tt) (at-100 .0) .1
-    (meeting 2 (first-zone ranges) 1 0 (at-most (pos 100)) (lit≤ tt) (lit≤ tt) (at-100 .0) .0 (at-100 .1) (let e = at-100 .2 in omega (arith, ints))) .0
+    (meeting 2 (first-zone ranges) 1 0 (at-most (pos 100)) (lit≤ tt) (lit≤ tt) (at-100 .0) .0 (at-100 .1) (let e =
+    at-100 .2 in omega (arith, ints))) .0
 
 relaxed-there : In 2 (relax 2 (first-zone ranges)) (at-100 .0)
 relaxed-there = relaxing 2 (first-zone ranges) 2 (lit≤ tt) .1 (at-100 .0) .0 (at-100 .1)

@@ -1,8 +1,10 @@
 // The theorems on zones and histories, each on the contract of a function: the crate is not proved without its proof.
 // What each says stands in specs/, its proof in proofs/; the functions themselves do nothing.
 ghost use Rattle.theory.specs.Example.{Worked-example};
-ghost use Rattle.theory.specs.Law.{Closing, First, Meeting, Meeting-reading, Reached, Relaxing, Unbounded, Unique, Widening};
-ghost use Rattle.theory.specs.Promise.{All-shown, Always-kept, Less-possible, Naming, No-history, Order-free, Sharpest, Stays-so, Wrong-or-blamed};
+ghost use Rattle.theory.specs.Law.{Closing, First, Meeting, Meeting-reading, Reached};
+ghost use Rattle.theory.specs.Law.{Relaxing, Unbounded, Unique, Widening};
+ghost use Rattle.theory.specs.Promise.{All-shown, Always-kept, Less-possible, Naming, No-history};
+ghost use Rattle.theory.specs.Promise.{Order-free, Sharpest, Stays-so, Wrong-or-blamed};
 
 // Each bound of a canonical zone is reached by levels of the zone.
 pub fn reached_stands() -> u8

@@ -18,8 +18,12 @@ abbrev At-rest : ℕ → ℕ → List ℤ → Type 0
 At-rest n k xs = Canonical n (zone-of n xs) × Roof (100000 + 10000 * k) n xs × All-sized reach n xs
 
 rests : (n k : ℕ) (xs : List ℤ) → k ≤ 1000000 → Canonical n (zone-of n xs) → Roof (100000 + 10000 * k) n xs → At-rest n k xs
-rests n k xs h ca ro =
-    (ca, ro, λ i j hi hj. sized-more (100000 + 10000 * k) reach (zone-of n xs i j) (omega arith) (roof-sized (100000 + 10000 * k) n xs ca ro i j hi hj))
+rests n k xs h ca ro = (
+  ca,
+  ro,
+  λ i j hi hj. sized-more (100000 + 10000 * k) reach (zone-of n xs i j) (omega arith)
+      (roof-sized (100000 + 10000 * k) n xs ca ro i j hi hj),
+)
 
 pub sizes-hold : Sizes-hold
 sizes-hold n k xs h (started rs ys s) = inr (rests n 0 ys h (s .canonical) (s .roof))

@@ -78,7 +78,8 @@ fn bad_fall(rates: &[Rate]) -> Option<usize>
 // There is a range for each basin, and each is in order.
 pub(crate) fn check_ranges(basins: usize, ranges: &[Range]) -> Result<(), Refusal>
     requires { ⌜ basins ≤ 8 ⌝ }
-    ensures { λ r. ⌜ Cases r (λ _. range-refused basins (now (ranges .entry)) ≡ None) (λ e. range-refused basins (now (ranges .entry)) ≡ Some e) ⌝ }
+    ensures { λ r. ⌜ Cases r (λ _. range-refused basins (now (ranges .entry)) ≡ None)
+        (λ e. range-refused basins (now (ranges .entry)) ≡ Some e) ⌝ }
 {
     if ranges.len() != basins {
         return Err(Refusal::Length(ranges.len() as u64));
@@ -92,7 +93,8 @@ pub(crate) fn check_ranges(basins: usize, ranges: &[Range]) -> Result<(), Refusa
 // There are rates for each basin, and none is too large.
 pub(crate) fn check_rates(basins: usize, rates: &[Rate]) -> Result<(), Refusal>
     requires { ⌜ basins ≤ 8 ⌝ }
-    ensures { λ r. ⌜ Cases r (λ _. rate-refused basins (now (rates .entry)) ≡ None) (λ e. rate-refused basins (now (rates .entry)) ≡ Some e) ⌝ }
+    ensures { λ r. ⌜ Cases r (λ _. rate-refused basins (now (rates .entry)) ≡ None)
+        (λ e. rate-refused basins (now (rates .entry)) ≡ Some e) ⌝ }
 {
     if rates.len() != basins {
         return Err(Refusal::Length(rates.len() as u64));

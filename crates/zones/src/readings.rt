@@ -20,7 +20,8 @@ use refusal::Refusal;
 fn meet_bound(basins: usize, first: usize, second: usize, bound: i64, zone: &mut [i64])
     requires size { ⌜ basins ≤ 8 ⌝ ∗ ⌜ length (now zone) ≡ (basins + 1) * (basins + 1) ⌝ }
     requires within { ⌜ first ≤ basins ⌝ ∗ ⌜ second ≤ basins ⌝ }
-    ensures { λ _. ⌜ now (zone .exit) ≡ set (now (zone .entry)) (first * (basins + 1) + second) (minZ (cell basins (now (zone .entry)) first second) bound) ⌝ }
+    ensures { λ _. ⌜ now (zone .exit) ≡ set (now (zone .entry)) (first * (basins + 1) + second)
+        (minZ (cell basins (now (zone .entry)) first second) bound) ⌝ }
 {
     let at = first * (basins + 1) + second;
     let own = zone[at];

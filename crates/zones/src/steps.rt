@@ -52,7 +52,8 @@ fn grow_at(zone: &mut [i64], at: usize, growth: i64)
 fn widen(basins: usize, rates: &[Rate], zone: &mut [i64])
     requires size { ⌜ basins ≤ 8 ⌝ ∗ ⌜ length (now zone) ≡ (basins + 1) * (basins + 1) ⌝ }
     requires checked { ⌜ rate-refused basins (now rates) ≡ None ⌝ }
-    ensures { λ _. ⌜ Widens basins (λ i j. rise-of (now (rates .entry)) i + fall-of (now (rates .entry)) j) (now (zone .entry)) (now (zone .exit)) ⌝ }
+    ensures { λ _. ⌜ Widens basins (λ i j. rise-of (now (rates .entry)) i + fall-of (now (rates .entry)) j)
+        (now (zone .entry)) (now (zone .exit)) ⌝ }
 {
     let width = basins + 1;
     for i in 0..width {
