@@ -17,9 +17,9 @@ returns-then-contains c =
     parses _ _
     (inl ((contains_char 0 c.args.line.now _ c.contains.ensures.cases (lit< tt)).0 c.if-contains.true, refl))
 
-pub returns-in-default : goal.returns-in-default
-returns-in-default c =
-    parses _ _ (no_nul (goal.at.returns-in-default c).Else-contains, sym c.of-words.ensures ∙ c.in-default.ensures)
+pub returns-in_default : goal.returns-in_default
+returns-in_default c =
+    parses _ _ (no_nul (goal.at.returns-in_default c).Else-contains, sym c.of-words.ensures ∙ c.in_default.ensures)
 
 pub returns-in-Ok : goal.returns-in-Ok
 returns-in-Ok c =

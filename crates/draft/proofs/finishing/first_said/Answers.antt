@@ -17,8 +17,8 @@ returns c =
     let h : length c.args.places.now ≤ c.loop-i.i = omega (arith, c.requires, c.loop-i-test.false) in
     sym (c.loop-i.invariant ∙ ap (first_bad unsaid c.loop-i.i) (drop_all _ _ h))
 
-pub returns-then-is-some : goal.returns-then-is-some
-returns-then-is-some c =
+pub returns-then-is_some : goal.returns-then-is_some
+returns-then-is_some c =
     let h : c.loop-i.i < length c.args.places.now = omega (arith, c.requires, c.loop-i-test.true) in
     let turn = ap (first_bad unsaid c.loop-i.i) (drop_more c.args.places.now c.loop-i.i None h) in
     let inv = c.loop-i.invariant in

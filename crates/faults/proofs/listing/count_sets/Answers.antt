@@ -6,8 +6,8 @@ use Rattle.faults.proofs.Tally.{count_more, count_within, number_counted}
 use Rattle.faults.proofs.listing.count_sets.Goals as goal
 use Rattle.faults.proofs.listing.count_sets.Goals.{then-bits-wrong, else-bits-wrong}
 
-pub overflow-add-found : goal.overflow-add-found
-overflow-add-found c = omega (arith, c.loop-bits.invariant, count_within c.loop-bits.bits (λ m. leb (ones m) c.args.wrong))
+pub overflow_add-found : goal.overflow_add-found
+overflow_add-found c = omega (arith, c.loop-bits.invariant, count_within c.loop-bits.bits (λ m. leb (ones m) c.args.wrong))
 
 pub loop-bits-preserved : goal.loop-bits-preserved
 loop-bits-preserved c =

@@ -9,7 +9,7 @@ loop-size-init c = c.new-sets.ensures.items
 
 pub loop-size-preserved : goal.loop-size-preserved
 loop-size-preserved c =
-    let added = c.in-ok-add-of-size.ensures in
+    let added = c.in_ok-add_of_size.ensures in
     let before = c.loop-size.invariant in
     cc (listing_more c.loop-size.size c.args.gauges)
 

@@ -12,7 +12,7 @@ returns-in-Ok c =
     let l = c.args.limit in
     let k = c.in-Some.number in
     let basin : to_z w64 (of_z w64 b) ≡ b = to_z-of_z w64 b c.ranges.basin in
-    let word : word_of b ≡ Some k = ap word_of (sym basin) ∙ sym c.word-of.ensures ∙ c.in-Some.is in
+    let word : word_of b ≡ Some k = ap word_of (sym basin) ∙ sym c.word_of.ensures ∙ c.in-Some.is in
     let limit : to_z w64 (of_z w64 l) ≡ l = to_z-of_z w64 l c.ranges.limit in
     subst (λ x. RingSays b x l o (answers.Rings (to_z w64 (of_z w64 b)) (to_z w64 (of_z w64 l)) c.in-Ok.alarm)) (sym word) record {
       result = c.alarm.result;

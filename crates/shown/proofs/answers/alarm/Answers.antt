@@ -13,7 +13,7 @@ returns c =
     let o = c.args.observer.now in
     let b = c.args.basin in
     let limit = c.args.limit in
-    let taken = c.in-ok-check-basin.ensures in
+    let taken = c.in_ok-check_basin.ensures in
     let fits : SFits w64 limit = search rules in
     let is : c.alarm_of.result ≡ alarm_of c.span.result limit = simp to_z-of_z at c.alarm_of.ensures in (
       taken,

@@ -9,7 +9,7 @@ pub returns : goal.returns
 returns c =
     let o = c.args.observer.now in
     let b = c.args.basin in
-    let taken = c.in-ok-check-basin.ensures in (
+    let taken = c.in_ok-check_basin.ensures in (
       taken,
       λ es t. subst (λ (s : Span). Exact s (level b) (possible o es t)) (sym c.span.ensures)
           (level_exact o es t b (basin_there o.plant.basins b taken)),

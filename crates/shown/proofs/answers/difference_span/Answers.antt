@@ -13,7 +13,7 @@ returns c =
     let n = o.plant.basins in
     let i = c.args.first in
     let j = c.args.second in
-    let taken = c.in-ok-check-pair.ensures in
+    let taken = c.in_ok-check_pair.ensures in
     let first = both_none (basin_refused n i) _ taken in
     let second = both_none (basin_refused n j) _ first.1 in (
       taken,

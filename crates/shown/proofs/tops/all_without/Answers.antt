@@ -5,8 +5,8 @@ use Rattle.shown.proofs.Counting.{all_more}
 use Rattle.shown.proofs.tops.all_without.Goals as goal
 use Rattle.shown.proofs.tops.all_without.Goals.{then-none, else-none}
 
-pub without-levels-none-requires : goal.without-levels-none-requires
-without-levels-none-requires c = record {
+pub without_levels-none-requires : goal.without_levels-none-requires
+without_levels-none-requires c = record {
   few = c.requires.few;
   there = part_within c.args.basins c.loop-place.place c.args.sets _ c.loop-place-test.true c.requires.whole;
 }
@@ -17,6 +17,6 @@ loop-place-preserved c =
     let so_far = c.loop-place.invariant in
     elim c.if-none.branch [
       | then-none w ↦
-          let is = w.none-is in let e = w.without-levels-none.ensures in let t = w.if-none.true in grind (arith, nat_tests)
+          let is = w.none-is in let e = w.without_levels-none.ensures in let t = w.if-none.true in grind (arith, nat_tests)
       | else-none w ↦ let is = w.none-is in let t = w.if-none.false in grind (arith, nat_tests)
     ]

@@ -4,10 +4,10 @@ use Rattle.faults.specs.Sets.{gauge_set}
 use Rattle.table.proofs.Parting.{part_within}
 use Rattle.shown.proofs.Counting.{in_each_more, met_with, passed_over}
 use Rattle.shown.proofs.tops.in_each.Goals as goal
-use Rattle.shown.proofs.tops.in_each.Goals.{then-not-without-levels, else-not-without-levels}
+use Rattle.shown.proofs.tops.in_each.Goals.{then-not-without_levels, else-not-without_levels}
 
-pub without-levels-requires : goal.without-levels-requires
-without-levels-requires c = record {
+pub without_levels-requires : goal.without_levels-requires
+without_levels-requires c = record {
   few = c.requires.few;
   there = part_within c.args.basins c.loop-place.place _ _ c.loop-place-test.true c.requires.whole;
 }
@@ -17,10 +17,10 @@ loop-place-preserved c a =
     let more = in_each_more c.args.basins c.args.sets.now c.args.table.now a c.loop-place.place in
     let so_far = c.loop-place.invariant a in
     let e = c.without_levels.ensures in
-    elim c.if-not-without-levels.branch [
-      | then-not-without-levels w ↦
+    elim c.if-not-without_levels.branch [
+      | then-not-without_levels w ↦
           ap (λ (v : FaultSet). gauge_set v a) w.common-is
-          ∙ met_with _ _ _ _ _ _ _ (w.intersect-common.ensures a) so_far more (sym e ∙ w.if-not-without-levels.true)
-      | else-not-without-levels w ↦
-          ap (λ (v : FaultSet). gauge_set v a) w.common-is ∙ passed_over _ _ _ _ _ _ so_far more (sym e ∙ w.if-not-without-levels.false)
+          ∙ met_with _ _ _ _ _ _ _ (w.intersect-common.ensures a) so_far more (sym e ∙ w.if-not-without_levels.true)
+      | else-not-without_levels w ↦
+          ap (λ (v : FaultSet). gauge_set v a) w.common-is ∙ passed_over _ _ _ _ _ _ so_far more (sym e ∙ w.if-not-without_levels.false)
     ]

@@ -7,16 +7,16 @@ use Rattle.table.proofs.Parting.{part_within}
 use Rattle.shown.specs.Computed.{larger, largest, without_levels}
 use Rattle.shown.proofs.Counting.{largest_more, largest_skip}
 use Rattle.shown.proofs.tops.largest.Goals as goal
-use Rattle.shown.proofs.tops.largest.Goals.{then-not-without-levels, else-not-without-levels}
+use Rattle.shown.proofs.tops.largest.Goals.{then-not-without_levels, else-not-without_levels}
 
-pub without-levels-requires : goal.without-levels-requires
-without-levels-requires c = record {
+pub without_levels-requires : goal.without_levels-requires
+without_levels-requires c = record {
   few = c.requires.few;
   there = part_within c.args.basins c.loop-place.place c.args.sets _ c.loop-place-test.true c.requires.whole;
 }
 
-pub number-at-number-requires : goal.number-at-number-requires
-number-at-number-requires c = record {
+pub number_at-number-requires : goal.number_at-number-requires
+number_at-number-requires c = record {
   few = c.requires.few;
   there = part_within c.args.basins c.loop-place.place c.args.sets _ c.loop-place-test.true c.requires.whole;
   within = c.requires.within;
@@ -29,20 +29,20 @@ loop-place-preserved c =
     let i = c.args.first in
     let j = c.args.second in
     let k = c.loop-place.place in
-    elim c.if-not-without-levels.branch [
-      | then-not-without-levels w ↦
+    elim c.if-not-without_levels.branch [
+      | then-not-without_levels w ↦
           let levels : without_levels n xs k ≡ false =
-          let t = w.if-not-without-levels.true in let e = c.without_levels.ensures in grind (arith, nat_tests) in
+          let t = w.if-not-without_levels.true in let e = c.without_levels.ensures in grind (arith, nat_tests) in
           let number : ℤ = cell n (part n k xs) i j in
           let so_far : Option ℤ = largest n xs i j k in
-          let fits : SFits w64 w.number-at-number.result = search rules in
-          let found : w.larger-best.result ≡ larger c.loop-place.best (Some w.number-at-number.result) =
+          let fits : SFits w64 w.number_at-number.result = search rules in
+          let found : w.larger-best.result ≡ larger c.loop-place.best (Some w.number_at-number.result) =
           simp to_z-of_z at w.larger-best.ensures in
           w.best-is ∙ found
-          ∙ ap₂ (λ (o : Option ℤ) (v : ℤ). larger o (Some v)) c.loop-place.invariant w.number-at-number.ensures
+          ∙ ap₂ (λ (o : Option ℤ) (v : ℤ). larger o (Some v)) c.loop-place.invariant w.number_at-number.ensures
           ∙ sym (largest_more n xs i j k levels)
-      | else-not-without-levels w ↦
+      | else-not-without_levels w ↦
           let none : without_levels n xs k ≡ true =
-          let t = w.if-not-without-levels.false in let e = c.without_levels.ensures in grind (arith, nat_tests) in
+          let t = w.if-not-without_levels.false in let e = c.without_levels.ensures in grind (arith, nat_tests) in
           w.best-is ∙ c.loop-place.invariant ∙ sym (largest_skip n xs i j k none)
     ]

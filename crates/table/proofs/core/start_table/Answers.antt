@@ -6,8 +6,8 @@ use Rattle.table.proofs.core.start_table.Goals as goal
 pub returns : goal.returns
 returns c =
     let p = c.args.plant.now in
-    let ys = c.start-all.new.table in
-    never_errs c.start-all.result _ (λ _. AllStart p.basins (vec_items p.ranges) (length c.args.sets.now) ys) _
-    c.in-ok-check-table.ensures
-    (subst (λ rs. MatchResult c.start-all.result (λ _. AllStart p.basins rs (length c.args.sets.now) ys) (λ _. ⊥))
-    c.as-slice.ensures.value c.start-all.ensures)
+    let ys = c.start_all.new.table in
+    never_errs c.start_all.result _ (λ _. AllStart p.basins (vec_items p.ranges) (length c.args.sets.now) ys) _
+    c.in_ok-check_table.ensures
+    (subst (λ rs. MatchResult c.start_all.result (λ _. AllStart p.basins rs (length c.args.sets.now) ys) (λ _. ⊥))
+    c.as_slice.ensures.value c.start_all.ensures)

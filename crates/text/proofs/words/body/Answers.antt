@@ -6,11 +6,11 @@ use Rattle.text.proofs.words.body.Goals as goal
 
 pub returns : goal.returns
 returns c =
-    let line = c.unwrap-or-line.result in
-    let first = ap (λ x. x.now) c.unwrap-or-line.ensures
+    let line = c.unwrap_or-line.result in
+    let first = ap (λ x. x.now) c.unwrap_or-line.ensures
     ∙ chopped_by 10 c.args.line.now _ c.args.line
-    (strip_suffix_char 10 c.args.line.now _ c.strip-suffix.ensures.cases (lit< tt)) refl in
-    let second = ap (λ x. x.now) c.unwrap-or.ensures
+    (strip_suffix_char 10 c.args.line.now _ c.strip_suffix.ensures.cases (lit< tt)) refl in
+    let second = ap (λ x. x.now) c.unwrap_or.ensures
     ∙ chopped_by 13 line.now _ line
-    (strip_suffix_char 13 line.now _ c.strip-suffix-2.ensures.cases (lit< tt)) refl in
+    (strip_suffix_char 13 line.now _ c.strip_suffix-2.ensures.cases (lit< tt)) refl in
     second ∙ ap (chopped 13) first

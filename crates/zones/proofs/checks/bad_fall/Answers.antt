@@ -14,8 +14,8 @@ loop-i-preserved c = next fall_ok _ c.loop-i.i (record { rise = 0; fall = 0 }) c
 pub returns : goal.returns
 returns c = record { first = done fall_ok _ _ c.loop-i-test.false c.loop-i.invariant; within = tt }
 
-pub returns-then-rate-gt-MAX-RATE : goal.returns-then-rate-gt-MAX-RATE
-returns-then-rate-gt-MAX-RATE c = record {
+pub returns-then-rate-gt-MAX_RATE : goal.returns-then-rate-gt-MAX_RATE
+returns-then-rate-gt-MAX_RATE c = record {
   first = here fall_ok _ c.loop-i.i (record { rise = 0; fall = 0 })
       c.loop-i-test.true c.loop-i.invariant (grind (arith, nat_tests));
   within = c.loop-i-test.true;

@@ -11,20 +11,20 @@ use Rattle.zones.proofs.first.farthest.Goals as goal
 long_enough : (n : ℕ) (rs : List Range) → range_refused n rs ≡ None → (i : ℕ) → i ≤ n → i ≤ length rs
 long_enough n rs e i h = let l = (ranges_ok n rs e).0 in omega arith
 
-pub most-of-most-requires : goal.most-of-most-requires
-most-of-most-requires c = long_enough c.args.basins c.args.ranges.now c.requires.checked c.args.i
+pub most_of-most-requires : goal.most_of-most-requires
+most_of-most-requires c = long_enough c.args.basins c.args.ranges.now c.requires.checked c.args.i
     c.requires.within.0
 
-pub least-of-least-requires : goal.least-of-least-requires
-least-of-least-requires c = long_enough c.args.basins c.args.ranges.now c.requires.checked c.args.j
+pub least_of-least-requires : goal.least_of-least-requires
+least_of-least-requires c = long_enough c.args.basins c.args.ranges.now c.requires.checked c.args.j
     c.requires.within.1
 
-pub overflow-sub-result : goal.overflow-sub-result
-overflow-sub-result c =
+pub overflow_sub-result : goal.overflow_sub-result
+overflow_sub-result c =
     let n = c.args.basins in let rs = c.args.ranges.now in
     let p = range_within n rs c.requires.checked c.args.i c.requires.within.0 in
     let q = range_within n rs c.requires.checked c.args.j c.requires.within.1 in
-    let e = c.most-of-most.ensures in let f = c.least-of-least.ensures in
+    let e = c.most_of-most.ensures in let f = c.least_of-least.ensures in
     omega (arith, ints)
 
 between : (rs : List Range) (i j : ℕ) → i ≢ j → first_number rs i j ≡ pos (most_of rs i) -ℤ pos (least_of rs j)
@@ -35,5 +35,5 @@ returns c =
     let n = c.args.basins in let rs = c.args.ranges.now in
     let p = range_within n rs c.requires.checked c.args.i c.requires.within.0 in
     let q = range_within n rs c.requires.checked c.args.j c.requires.within.1 in
-    let e = c.most-of-most.ensures in let f = c.least-of-least.ensures in
+    let e = c.most_of-most.ensures in let f = c.least_of-least.ensures in
     omega (arith, ints) ∙ sym (between rs c.args.i c.args.j c.if-i-j.false)

@@ -13,7 +13,7 @@ loop-i-preserved c =
     let low : 1 ≤ i = omega arith in let long : length ys ≡ (n + 1) * (n + 1) = omega arith in
     elim c.if-i-j.branch [
       | then-i-j w ↦ rw w.zone-is (column_write n j i _ ys some hj low hi c.loop-i.invariant _ w.if-i-j.true long
-          (w.smaller-of.ensures ∙ ap (λ p. smaller (number_at n ys i j) (get_or ys p 0)) (omega arith)))
+          (w.smaller_of.ensures ∙ ap (λ p. smaller (number_at n ys i j) (get_or ys p 0)) (omega arith)))
       | else-i-j w ↦ rw w.zone-is (column_skip n j i _ ys some hj low hi c.loop-i.invariant w.if-i-j.false)
     ]
 

@@ -4,8 +4,8 @@ use Rattle.zones.specs.Numbers.{cell}
 use Rattle.zones.proofs.Cells.{place, place_within}
 use Rattle.zones.proofs.readings.meet_bound.Goals as goal
 
-pub slice-copy-out·own : goal.slice-copy-out·own
-slice-copy-out·own c = let p = place_within c.args.basins c.args.first c.args.second (omega arith)
+pub slice_copy_out-own : goal.slice_copy_out-own
+slice_copy_out-own c = let p = place_within c.args.basins c.args.first c.args.second (omega arith)
     (omega arith) in omega arith
 
 pub bounds-zone-at : goal.bounds-zone-at

@@ -18,7 +18,7 @@ opposite-requires c =
 pub returns : goal.returns
 returns c =
     let n = c.args.basins in let r = c.args.reading in let xs = c.args.zone.now in
-    let ys = c.meet-bound.new.zone in let zs = c.meet-bound-2.new.zone in
+    let ys = c.meet_bound.new.zone in let zs = c.meet_bound-2.new.zone in
     let ok = reading_ok n r c.requires.checked in
     let h : SFits w64 r.high = search rules in
     let l : SFits w64 (neg_ℤ r.low) = let k = ok.3 in let m = ok.2 in let q = ok.4 in omega (arith, ints) in
@@ -26,9 +26,9 @@ returns c =
     let o : SFits w64 c.opposite.result = search rules in
     let flip : c.opposite.result ≡ neg_ℤ r.low = simp to_z-of_z at c.opposite.ensures in
     let e : ys ≡ set xs (place n r.first r.second) (int_min (cell n xs r.first r.second) r.high) =
-    simp (to_z-of_z, c.from-first.ensures, c.from-second.ensures) at c.meet-bound.ensures in
+    simp (to_z-of_z, c.from-first.ensures, c.from-second.ensures) at c.meet_bound.ensures in
     let f : zs ≡ set ys (place n r.second r.first) (int_min (cell n ys r.second r.first) (neg_ℤ r.low)) =
-    simp (to_z-of_z, c.from-first.ensures, c.from-second.ensures) at c.meet-bound-2.ensures
+    simp (to_z-of_z, c.from-first.ensures, c.from-second.ensures) at c.meet_bound-2.ensures
     ∙ ap (λ v. set ys (place n r.second r.first) (int_min (cell n ys r.second r.first) v)) flip in
     let long : length ys ≡ (n + 1) * (n + 1) = omega arith in
     let up : Met n r.first r.second r.high xs ys =
@@ -38,4 +38,4 @@ returns c =
     let down : Met n r.second r.first (neg_ℤ r.low) ys zs =
     subst (Met n r.second r.first (neg_ℤ r.low) ys) (sym f)
     (met n ys r.second r.first (neg_ℤ r.low) ok.1 ok.0 long (let q = ok.3 in omega (arith, ints))) in
-    reads n r xs ys zs c.close-square.new.zone ok.3 ok.2 ok.4 up down c.close-square.ensures
+    reads n r xs ys zs c.close_square.new.zone ok.3 ok.2 ok.4 up down c.close_square.ensures

@@ -26,12 +26,12 @@ loop-j-init c = filled_none (pos 0) c.args.basins (grow c.args.rates.now)
 long_enough : (n : ℕ) (rs : List Rate) → rate_refused n rs ≡ None → (i : ℕ) → i < n + 1 → i ≤ length rs
 long_enough n rs e i h = let l = (rates_ok n rs e).0 in omega arith
 
-pub rise-of-rise-requires : goal.rise-of-rise-requires
-rise-of-rise-requires c = long_enough c.args.basins c.args.rates.now c.requires.checked c.loop-i.i
+pub rise_of-rise-requires : goal.rise_of-rise-requires
+rise_of-rise-requires c = long_enough c.args.basins c.args.rates.now c.requires.checked c.loop-i.i
     c.loop-i-test.true
 
-pub fall-of-fall-requires : goal.fall-of-fall-requires
-fall-of-fall-requires c = long_enough c.args.basins c.args.rates.now c.requires.checked c.loop-j.j
+pub fall_of-fall-requires : goal.fall_of-fall-requires
+fall_of-fall-requires c = long_enough c.args.basins c.args.rates.now c.requires.checked c.loop-j.j
     c.loop-j-test.true
 
 -- between two different numbers
@@ -45,9 +45,9 @@ growth_is : (rs : List Rate) (n i j : ℕ) → rate_refused n rs ≡ None → i 
 growth_is rs n i j ok hi hj a b e f =
     let p = rise_within n rs ok i hi in let q = fall_within n rs ok j hj in (omega (arith, ints), omega (arith, ints))
 
-pub overflow-add-rise : goal.overflow-add-rise
-overflow-add-rise c = (growth_is c.args.rates.now c.args.basins c.loop-i.i c.loop-j.j c.requires.checked
-    (omega arith) (omega arith) _ _ c.rise-of-rise.ensures c.fall-of-fall.ensures).0
+pub overflow_add-rise : goal.overflow_add-rise
+overflow_add-rise c = (growth_is c.args.rates.now c.args.basins c.loop-i.i c.loop-j.j c.requires.checked
+    (omega arith) (omega arith) _ _ c.rise_of-rise.ensures c.fall_of-fall.ensures).0
 
 pub loop-j-preserved : goal.loop-j-preserved
 loop-j-preserved c =
@@ -56,10 +56,10 @@ loop-j-preserved c =
     let long : length ys ≡ (n + 1) * (n + 1) = omega arith in
     elim c.if-i-j.branch [
       | then-i-j w ↦
-          let g = (growth_is rs n i j c.requires.checked (omega arith) (omega arith) _ _ c.rise-of-rise.ensures
-          w.fall-of-fall.ensures).1 in
+          let g = (growth_is rs n i j c.requires.checked (omega arith) (omega arith) _ _ c.rise_of-rise.ensures
+          w.fall_of-fall.ensures).1 in
           subst (Filled (pos 0) n (grow rs) (place n i 0) (place n i (j + 1)) c.loop-i.zone) (sym (w.zone-is
-          ∙ w.grow-at.ensures))
+          ∙ w.grow_at.ensures))
           (filled_write (pos 0) n (grow rs) i j c.loop-i.zone ys (omega arith) (omega arith) c.loop-j.invariant _ long
           (ap (total_sum (get_or ys (place n i j) (pos 0))) g ∙ grown_other rs i j _ w.if-i-j.true))
       | else-i-j w ↦

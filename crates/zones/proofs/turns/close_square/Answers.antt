@@ -4,7 +4,7 @@ use Rattle.zones.specs.Numbers.{zone_of, no_levels, Settles, Turns}
 use Rattle.zones.proofs.Closing.{closes_empty, closes_turned}
 use Rattle.zones.proofs.turns.close_square.Goals as goal
 use Rattle.zones.proofs.turns.close_square.Goals.{then-not-settle-via-then-not-settle}
-use Rattle.zones.proofs.turns.close_square.Goals.{then-not-settle-via-else-not-settle+then-not-turn-all}
+use Rattle.zones.proofs.turns.close_square.Goals.{then-not-settle-via-else-not-settle+then-not-turn_all}
 
 pub returns-then-not-settle : goal.returns-then-not-settle
 returns-then-not-settle c =
@@ -13,12 +13,12 @@ returns-then-not-settle c =
     ∙ ap (λ m. replicate m (negsuc 0)) (omega arith) in
     let none_in : Empty n (zone_of n c.args.zone.now) = elim c.then-not-settle.branch [
       | then-not-settle-via-then-not-settle w ↦ w.if-not-settle.ensures.empty refl
-      | then-not-settle-via-else-not-settle+then-not-turn-all w ↦ λ x p. w.if-not-turn-all.ensures.empty refl x
+      | then-not-settle-via-else-not-settle+then-not-turn_all w ↦ λ x p. w.if-not-turn_all.ensures.empty refl x
           ((w.if-not-settle.ensures.levels x).0 p)
     ] in
     closes_empty n c.args.zone.now c.fill.new.self none_in filled
 
-pub returns-else-not-turn-all : goal.returns-else-not-turn-all
-returns-else-not-turn-all c =
-    closes_turned c.args.basins c.args.zone.now c.settle.new.zone c.turn-all.new.zone
-    c.if-not-settle.ensures c.if-not-turn-all.ensures
+pub returns-else-not-turn_all : goal.returns-else-not-turn_all
+returns-else-not-turn_all c =
+    closes_turned c.args.basins c.args.zone.now c.settle.new.zone c.turn_all.new.zone
+    c.if-not-settle.ensures c.if-not-turn_all.ensures

@@ -8,7 +8,7 @@ use Rattle.zones.proofs.Cells.{place, place_within, cell_same}
 use Rattle.zones.proofs.Turning.{Turned, Begun, begun_none, begun_more, begun_empty, begun_all, turned_none, turned_more}
 use Rattle.zones.proofs.Turning.{row_write, row_skip, row_done, diagonal_write, zero_is}
 use Rattle.zones.proofs.turns.turn_all.Goals as goal
-use Rattle.zones.proofs.turns.turn_all.Goals.{After-is-sharper, then-is-sharper+else-i-j, else-is-sharper}
+use Rattle.zones.proofs.turns.turn_all.Goals.{After-is_sharper, then-is_sharper+else-i-j, else-is_sharper}
 
 pub turns-init : goal.turns-init
 turns-init c = (begun_none c.args.basins c.args.zone.now c.requires.itself, refl)
@@ -30,15 +30,15 @@ loop-j-init c = (
   c.loop-i.invariant.2,
 )
 
-pub slice-copy-out·from-k : goal.slice-copy-out·from-k
-slice-copy-out·from-k c = let p = place_within c.args.basins c.turns.k c.loop-j.j (omega arith)
+pub slice_copy_out-from_k : goal.slice_copy_out-from_k
+slice_copy_out-from_k c = let p = place_within c.args.basins c.turns.k c.loop-j.j (omega arith)
     (omega arith) in omega arith
 
 pub bounds-zone-at : goal.bounds-zone-at
 bounds-zone-at c = let p = place_within c.args.basins c.loop-i.i c.loop-j.j (omega arith) (omega arith) in omega arith
 
 -- the sum that was computed, and the test
-sum_is : (c : After-is-sharper) → to_z w64 (of_z w64 c.sum-through.result) ≡ total_sum
+sum_is : (c : After-is_sharper) → to_z w64 (of_z w64 c.sum-through.result) ≡ total_sum
     (cell c.args.basins c.loop-i.zone c.loop-i.i c.turns.k)
     (cell c.args.basins c.loop-j.zone c.turns.k c.loop-j.j)
 unfolding cell
@@ -49,15 +49,15 @@ sum_is c =
     let r : SFits w64 c.sum-through.result = search rules in
     to_z-of_z w64 _ r ∙ simp to_z-of_z at c.sum-through.ensures.value
 
-test_is : (c : After-is-sharper) → c.is-sharper.result ≡ lt_z (to_z w64 (of_z w64 c.sum-through.result))
+test_is : (c : After-is_sharper) → c.is_sharper.result ≡ lt_z (to_z w64 (of_z w64 c.sum-through.result))
     (cell c.args.basins c.loop-j.zone c.loop-i.i c.loop-j.j)
 unfolding cell
 test_is c =
     let g : SFits w64 (get_or c.loop-j.zone (c.loop-i.i * (c.args.basins + 1) + c.loop-j.j) (pos 0)) = search rules in
-    c.is-sharper.ensures.value ∙ ap (lt_z (to_z w64 (of_z w64 c.sum-through.result))) (to_z-of_z w64 _ g)
+    c.is_sharper.ensures.value ∙ ap (lt_z (to_z w64 (of_z w64 c.sum-through.result))) (to_z-of_z w64 _ g)
 
 -- one place more
-write : (c : After-is-sharper) → c.is-sharper.result ≡ true →
+write : (c : After-is_sharper) → c.is_sharper.result ≡ true →
     Turned c.args.basins c.turns.k (place c.args.basins c.loop-i.i 0)
     (place c.args.basins c.loop-i.i (c.loop-j.j + 1)) (zone_of c.args.basins c.loop-i.zone)
     (zone_of c.args.basins (set c.loop-j.zone (place c.args.basins c.loop-i.i c.loop-j.j)
@@ -68,7 +68,7 @@ write c e =
     (omega arith) (omega arith) (omega arith) (c.loop-i.invariant.1 c.turns.k (omega arith)) c.loop-j.invariant.0 _
     (sum_is c) (sym (test_is c) ∙ e)
 
-skip : (c : After-is-sharper) → c.is-sharper.result ≡ false →
+skip : (c : After-is_sharper) → c.is_sharper.result ≡ false →
     Turned c.args.basins c.turns.k (place c.args.basins c.loop-i.i 0)
     (place c.args.basins c.loop-i.i (c.loop-j.j + 1)) (zone_of c.args.basins c.loop-i.zone)
     (zone_of c.args.basins c.loop-j.zone)
@@ -80,15 +80,15 @@ skip c e =
 
 pub loop-j-preserved : goal.loop-j-preserved
 loop-j-preserved c =
-    let n = c.args.basins in let a = (goal.at.loop-j-preserved c).After-is-sharper in
-    elim c.if-is-sharper.branch [
-      | then-is-sharper+else-i-j w ↦ rw w.zone-is (
-        write a w.if-is-sharper.true,
+    let n = c.args.basins in let a = (goal.at.loop-j-preserved c).After-is_sharper in
+    elim c.if-is_sharper.branch [
+      | then-is_sharper+else-i-j w ↦ rw w.zone-is (
+        write a w.if-is_sharper.true,
         diagonal_write n c.loop-i.i
             c.loop-j.j c.loop-j.zone _ (omega arith) w.if-i-j.false c.loop-j.invariant.1,
         c.loop-j.invariant.2,
       )
-      | else-is-sharper w ↦ rw w.zone-is (skip a w.if-is-sharper.false, c.loop-j.invariant.1, c.loop-j.invariant.2)
+      | else-is_sharper w ↦ rw w.zone-is (skip a w.if-is_sharper.false, c.loop-j.invariant.1, c.loop-j.invariant.2)
     ]
 
 pub loop-i-preserved : goal.loop-i-preserved
@@ -122,15 +122,15 @@ returns-then-i-j c =
     let n = c.args.basins in let k = c.turns.k in let i = c.loop-i.i in let j = c.loop-j.j in
     let ys = c.loop-j.zone in
     let v = to_z w64 (of_z w64 c.sum-through.result) in
-    let a = (goal.at.returns-then-i-j c).After-is-sharper in
+    let a = (goal.at.returns-then-i-j c).After-is_sharper in
     let o = c.turns.invariant.0.itself k (omega arith) in
     let t = turned_more n k 0 (place n i 0) (place n i (j + 1)) _ _ _ (omega arith) (omega arith) (omega arith)
-    (zero_is o) c.loop-i.invariant.0 (write a c.if-is-sharper.true) in
+    (zero_is o) c.loop-i.invariant.0 (write a c.if-is_sharper.true) in
     let same : i ≡ j = c.if-i-j.true in
     let long : length ys ≡ (n + 1) * (n + 1) = omega arith in
     let is : cell n (set ys (place n i j) v) i i ≡ v = subst (λ m. cell n (set ys (place n i j) v) i m ≡ v) (sym same)
     (cell_same n ys i j v (omega arith) (omega arith) long) in
-    let less : lt_z v (cell n ys i j) ≡ true = sym (test_is a) ∙ c.if-is-sharper.true in
+    let less : lt_z v (cell n ys i j) ≡ true = sym (test_is a) ∙ c.if-is_sharper.true in
     let own : cell n ys i j ≡ pos 0 = subst (λ m. cell n ys i m ≡ pos 0) same (c.loop-j.invariant.1 i (omega arith)) in
     begun_empty n k c.args.zone.now c.turns.zone _ c.turns.invariant.0 c.requires.size.0 (omega arith)
     (place n i (j + 1)) i t (omega arith) (omega (arith, ints))

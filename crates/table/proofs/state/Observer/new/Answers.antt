@@ -7,17 +7,17 @@ use Rattle.table.proofs.Parting.{fitting, clash_some}
 use Rattle.table.proofs.Following.{follows_start}
 use Rattle.table.proofs.state.Observer.new.Goals as goal
 
-pub returns-in-err-start-table : goal.returns-in-err-start-table
-returns-in-err-start-table c =
+pub returns-in_err-start_table : goal.returns-in_err-start_table
+returns-in_err-start_table c =
     let n = c.args.plant.basins in
-    let sets = c.in-ok-sets.sets in
+    let sets = c.in_ok-sets.sets in
     let mul = c.in-Some.ensures.1 in
-    let made = c.in-ok-table.ensures.len in
-    let long : length c.as-mut-slice.result.now ≡ vec_len sets * size n =
-    c.as-mut-slice.ensures.len ∙ omega (arith, made, mul) ∙ ap (λ m. m * size n) c.len.ensures in
-    let fits : table_refused n (length c.as-slice.result.now) (length c.as-mut-slice.result.now) ≡ None =
-    fitting n (vec_len sets) _ _ c.as-slice.ensures.len long in
-    let refused = c.in-err-start-table.ensures.0 in
+    let made = c.in_ok-table.ensures.len in
+    let long : length c.as_mut_slice.result.now ≡ vec_len sets * size n =
+    c.as_mut_slice.ensures.len ∙ omega (arith, made, mul) ∙ ap (λ m. m * size n) c.len.ensures in
+    let fits : table_refused n (length c.as_slice.result.now) (length c.as_mut_slice.result.now) ≡ None =
+    fitting n (vec_len sets) _ _ c.as_slice.ensures.len long in
+    let refused = c.in_err-start_table.ensures.0 in
     absurd (clash_some (sym refused ∙ fits))
 
 pub returns : goal.returns
@@ -25,22 +25,22 @@ returns c =
     let p = c.args.plant in
     let n = p.basins in
     let rs = vec_items p.ranges in
-    let sets = c.in-ok-sets.sets in
-    let ys : List ℤ = c.start-table.new.table in
-    let table = c.in-ok-table.table in
-    let long : length ys ≡ table.len = omega (arith, c.start-table.auto.table, c.as-mut-slice.ensures.len) in
+    let sets = c.in_ok-sets.sets in
+    let ys : List ℤ = c.start_table.new.table in
+    let table = c.in_ok-table.table in
+    let long : length ys ≡ table.len = omega (arith, c.start_table.auto.table, c.as_mut_slice.ensures.len) in
     let started : AllStart n rs (length (vec_items sets)) (vec_items (with_items table ys)) =
     subst (AllStart n rs (length (vec_items sets))) (sym (with_items_is table ys long))
-    (subst (λ (ss : List FaultSet). AllStart n rs (length ss) ys) c.as-slice.ensures.value
-    c.in-ok-start-table.ensures.1) in (
+    (subst (λ (ss : List FaultSet). AllStart n rs (length ss) ys) c.as_slice.ensures.value
+    c.in_ok-start_table.ensures.1) in (
       refl,
       record {
         plant = refl;
-        in_play = c.len-in-play.ensures;
+        in_play = c.len-in_play.ensures;
         steps = refl;
         tracks = record {
           counted = refl;
-          listed = c.in-ok-sets.ensures.listed.1;
+          listed = c.in_ok-sets.ensures.listed.1;
           follows = λ k h. follows_start n rs _ _ (started k h);
         };
       },

@@ -15,16 +15,16 @@ returns c =
     let o = c.args.self.now in
     let p = o.plant in
     let r = c.args.reading in
-    let ys : List ℤ = c.read-table.new.table in
-    let long : length ys ≡ o.table.len = omega (arith, c.read-table.auto.table, c.as-mut-slice.ensures.len) in
+    let ys : List ℤ = c.read_table.new.table in
+    let long : length ys ≡ o.table.len = omega (arith, c.read_table.auto.table, c.as_mut_slice.ensures.len) in
     let ts : List ℤ = vec_items (with_items o.table ys) in
     let heeded : AllRead p.basins (placed_reading (vec_items p.gauges) r) r.gauge (vec_items o.sets) (vec_items o.table) ts =
     subst (AllRead p.basins (placed_reading (vec_items p.gauges) r) r.gauge (vec_items o.sets) (vec_items o.table))
     (sym (with_items_is o.table ys long))
-    (subst (λ xs. AllRead p.basins (placed_reading (vec_items p.gauges) r) r.gauge (vec_items o.sets) xs ys) c.as-mut-slice.ensures.value
-    (subst (λ (ss : List FaultSet). AllRead p.basins (placed_reading (vec_items p.gauges) r) r.gauge ss c.as-mut-slice.result.now ys)
-    c.as-slice.ensures.value c.in-ok-read-table.ensures.1)) in (
-      c.in-ok-check-reading.ensures,
+    (subst (λ xs. AllRead p.basins (placed_reading (vec_items p.gauges) r) r.gauge (vec_items o.sets) xs ys) c.as_mut_slice.ensures.value
+    (subst (λ (ss : List FaultSet). AllRead p.basins (placed_reading (vec_items p.gauges) r) r.gauge ss c.as_mut_slice.result.now ys)
+    c.as_slice.ensures.value c.in_ok-read_table.ensures.1)) in (
+      c.in_ok-check_reading.ensures,
       record {
         plant = refl;
         in_play = refl;
@@ -37,14 +37,14 @@ returns c =
       },
     )
 
-pub returns-in-err-read-table : goal.returns-in-err-read-table
-returns-in-err-read-table c =
+pub returns-in_err-read_table : goal.returns-in_err-read_table
+returns-in_err-read_table c =
     let o = c.args.self.now in
     let taken : reading_refused (vec_len o.plant.gauges) c.args.reading ≡ None =
-    subst (λ g. reading_refused g c.args.reading ≡ None) o.known c.in-ok-check-reading.ensures in
+    subst (λ g. reading_refused g c.args.reading ≡ None) o.known c.in_ok-check_reading.ensures in
     let whole = o.whole in
-    let a = c.as-slice.ensures.len in
-    let b = c.as-mut-slice.ensures.len in
-    let fits : table_refused o.plant.basins (length c.as-slice.result.now) (length c.as-mut-slice.result.now) ≡ None =
+    let a = c.as_slice.ensures.len in
+    let b = c.as_mut_slice.ensures.len in
+    let fits : table_refused o.plant.basins (length c.as_slice.result.now) (length c.as_mut_slice.result.now) ≡ None =
     fitting o.plant.basins (vec_len o.sets) _ _ a (b ∙ whole) in
-    absurd (taken_both _ _ _ fits taken c.in-err-read-table.ensures.0)
+    absurd (taken_both _ _ _ fits taken c.in_err-read_table.ensures.0)

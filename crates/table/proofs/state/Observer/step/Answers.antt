@@ -11,16 +11,16 @@ pub returns : goal.returns
 returns c =
     let o = c.args.self.now in
     let p = o.plant in
-    let ys : List ℤ = c.step-table.new.table in
-    let long : length ys ≡ o.table.len = omega (arith, c.step-table.auto.table, c.as-mut-slice.ensures.len) in
+    let ys : List ℤ = c.step_table.new.table in
+    let long : length ys ≡ o.table.len = omega (arith, c.step_table.auto.table, c.as_mut_slice.ensures.len) in
     let ts : List ℤ = vec_items (with_items o.table ys) in
     let stepped : AllStep p.basins (vec_items p.rates) (length (vec_items o.sets)) (vec_items o.table) ts =
     subst (AllStep p.basins (vec_items p.rates) (length (vec_items o.sets)) (vec_items o.table))
     (sym (with_items_is o.table ys long))
-    (subst (λ xs. AllStep p.basins (vec_items p.rates) (length (vec_items o.sets)) xs ys) c.as-mut-slice.ensures.value
-    (subst (λ (ss : List FaultSet). AllStep p.basins (vec_items p.rates) (length ss) c.as-mut-slice.result.now ys)
-    c.as-slice.ensures.value c.in-ok-step-table.ensures.1)) in (
-      c.in-ok-check-step.ensures,
+    (subst (λ xs. AllStep p.basins (vec_items p.rates) (length (vec_items o.sets)) xs ys) c.as_mut_slice.ensures.value
+    (subst (λ (ss : List FaultSet). AllStep p.basins (vec_items p.rates) (length ss) c.as_mut_slice.result.now ys)
+    c.as_slice.ensures.value c.in_ok-step_table.ensures.1)) in (
+      c.in_ok-check_step.ensures,
       record {
         plant = refl;
         in_play = refl;
