@@ -22,7 +22,7 @@ returns c =
     let g = vec_len c.args.plant.gauges in
     let o = c.in_ok-observer.observer in
     let begun = c.in_ok-observer.ensures.1 in
-    let all = c.take-all.ensures in
+    let all = c.take_all.ensures in
     let readings : readings_refused g es ≡ None =
     subst (λ k. readings_refused k es ≡ None) c.len.ensures c.in_ok-check_readings.ensures in
     let steps : steps_refused es ≡ None = c.in_ok-check_steps.ensures in
@@ -33,6 +33,6 @@ returns c =
       record {
         plant = all.plant ∙ begun.plant;
         in_play = all.in_play ∙ begun.in_play;
-        tracks = subst (Tracks c.take-all.new.self) whole (all.tracks [] begun.tracks);
+        tracks = subst (Tracks c.take_all.new.self) whole (all.tracks [] begun.tracks);
       },
     )
