@@ -196,7 +196,10 @@ fn follow_lines<R: Read + Drop, O: Write, E: Write>(
     requires { follower.old.counts ≡ none }
     ensures { OnOk result (Once follower.new.counts) }
 {
-    let mut input = BufReader::new(heap, from)?;
+    let mut input = match BufReader::new(heap, from) {
+        Ok(input) => input,
+        Err(e) => return Err(Halt::Reading(e)),
+    };
     let mut line = Vec::new(heap);
     for _turn in 0..u64::MAX {
         line.clear();

@@ -1,5 +1,6 @@
 // follow [FILE]: reads the plant, the steps and the readings line by line, and answers each request.
 ghost use Rattle.std.specs.Prelude.{◌≡◌, IfOk};
+ghost use Rattle.follow.specs.Counted.{Once};
 
 mod call;
 mod counts;
@@ -13,6 +14,7 @@ use counts::Counts;
 use halt::Halt;
 use std::fs::File;
 use std::io::{BufWriter, Read};
+use std::process::ExitCode;
 use std::{env, io};
 
 const USAGE: &str = "usage: follow [FILE]\n       follow --help";
@@ -63,6 +65,15 @@ such a line or the program had to stop.";
 // The process ends with status 1; what went wrong has been printed.
 struct Failed;
 
+// Follows an input that could be opened.
+fn follow<R: Read + Drop>(rt: &HostRuntime, from: R) -> Result<Counts, Halt>
+    ensures { IfOk result Once }
+{
+    let mut out = BufWriter::new(rt.alloc(), rt.stdout())?;
+    let mut err = BufWriter::new(rt.alloc(), rt.stderr())?;
+    lines::follow(rt.alloc(), from, &mut out, &mut err)
+}
+
 // Follows one input. It is done well only if every line could be read.
 fn run<R: Read + Drop>(rt: &HostRuntime, name: &str, input: io::Result<R>) -> Result<Counts, Failed>
     ensures { IfOk result (λ c. (c.errors ≡ 0) × (c.strays ≡ 0)) }
@@ -74,9 +85,7 @@ fn run<R: Read + Drop>(rt: &HostRuntime, name: &str, input: io::Result<R>) -> Re
             return Err(Failed);
         }
     };
-    let mut out = BufWriter::new(rt.stdout());
-    let mut err = BufWriter::new(rt.stderr());
-    match lines::follow(rt.alloc(), from, &mut out, &mut err) {
+    match follow(rt, from) {
         Ok(counts) => {
             if counts.errors == 0 && counts.strays == 0 {
                 Ok(counts)
@@ -93,8 +102,9 @@ fn run<R: Read + Drop>(rt: &HostRuntime, name: &str, input: io::Result<R>) -> Re
     }
 }
 
-fn main(rt: HostRuntime) -> Result<(), Failed> {
-    let mut args = match env::args(&rt) {
+// Does what the command line asks for.
+fn start(rt: &HostRuntime) -> Result<(), Failed> {
+    let mut args = match env::args(rt) {
         Ok(args) => args,
         Err(e) => {
             let _ = eprintln!(rt; "follow: arguments: {e}");
@@ -108,10 +118,10 @@ fn main(rt: HostRuntime) -> Result<(), Failed> {
             let _ = println!(rt; "{HELP}");
         }
         Call::Input => {
-            run(&rt, "standard input", Ok(rt.stdin()))?;
+            run(rt, "standard input", Ok(rt.stdin()))?;
         }
         Call::File(path) => {
-            run(&rt, path.as_str(), File::open(&rt, path.as_str()))?;
+            run(rt, path.as_str(), File::open(rt, path.as_str()))?;
         }
         Call::Misused => {
             let _ = eprintln!(rt; "{USAGE}");
@@ -119,4 +129,12 @@ fn main(rt: HostRuntime) -> Result<(), Failed> {
         }
     }
     Ok(())
+}
+
+// `main` tells nothing more of an error: it has been told.
+fn main(rt: HostRuntime) -> ExitCode {
+    match start(&rt) {
+        Ok(()) => ExitCode::SUCCESS,
+        Err(Failed) => ExitCode::FAILURE,
+    }
 }

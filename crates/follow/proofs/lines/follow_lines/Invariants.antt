@@ -3,4 +3,4 @@ use Rattle.follow.specs.Counted.{Once}
 use Rattle.follow.proofs.lines.follow_lines.Given as goal
 
 abbrev pub invariant-loop-turn : goal.invariant-loop-turn
-invariant-loop-turn g l = (l.follower.counts.lines ≡ l.-turn) × Once l.follower.counts
+invariant-loop-turn g l = (l.follower.counts.lines ≡ l._turn) × Once l.follower.counts

@@ -4,8 +4,8 @@ use Rattle.follow.specs.declared.counts.Counts.{Counts}
 use Rattle.follow.specs.Followed.{Answered, Entered, one_more}
 use Rattle.follow.proofs.lines.take.Goals as goal
 
-pub returns-in_ok-enter : goal.returns-in_ok-enter
-returns-in_ok-enter g c =
+pub returns-in_ok-enter-in-Some : goal.returns-in_ok-enter-in-Some
+returns-in_ok-enter-in-Some g c =
     let P : Counts → Type 0 =
     λ k. Entered c.in-Some.entry (record { counts = k; stage = c.args.follower.now.stage }) c.enter.new.follower in
     let Q : Option Entry → Type 0 = λ x. Answered (Ok x) (one_more c.args.follower.now) c.enter.new.follower in
@@ -13,5 +13,5 @@ returns-in_ok-enter g c =
       reading = Ok c.in-Ok.said;
       text = c.in-Ok.ensures.text;
       other = c.in-Ok.ensures.other;
-      state = subst Q (sym c.in-Some.is) (subst P c.line.ensures c.in_ok-enter.ensures);
+      state = subst Q (sym c.in-Some.is) (subst P c.line.ensures c.in_ok-enter-in-Some.ensures);
     }
