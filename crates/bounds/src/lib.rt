@@ -1,4 +1,6 @@
 // Bounds on the difference of two levels, as i64: by how much, at the most, the first is above the second.
+#![tactic(auto)]
+
 ghost use Rattle.std.specs.Prelude.{◌≡◌, ◌⊎◌, ℤ, ◌≤ℤ◌, Decides, int_lt};
 ghost use Rattle.std.specs.Int.{int_min};
 ghost use Rattle.theory.specs.Bound.{NoLarger, sum, sharper};

@@ -1,15 +1,12 @@
 -- The plant that the lines make. Assumes nothing: these are definitions.
-use Rattle.std.specs.Prelude.{◌≡◌, ℕ, ◌+◌, Bool, not, List, [], ◌∷◌, ◌++◌, take, drop, is_some, Some, None, Ok, Err, vec_items, Option, Result, MatchResult}
+use Rattle.std.specs.Prelude.{◌≡◌, ℕ, ◌+◌, Bool, not, List, [], ◌∷◌, ◌++◌, take, drop, is_some, Some, None, Err, vec_items, Option, Result, MatchResult}
 use Rattle.std.specs.Option.{option_map, unwrap_or}
 use Rattle.refusal.specs.Order.{or_else, first_bad}
 use Rattle.refusal.specs.declared.kinds.Refusal.{Refusal}
 use Rattle.refusal.specs.declared.kinds.Refusal.TheVariants.{Placement}
-use Rattle.zones.specs.declared.kinds.Range.{Range}
-use Rattle.zones.specs.declared.kinds.Rate.{Rate}
 use Rattle.plant.specs.declared.kinds.Gauge.{Gauge}
 use Rattle.plant.specs.declared.whole.Plant.{Plant}
 use Rattle.plant.specs.Checks.{plant_refused}
-use Rattle.draft.specs.declared.errors.Item.{Item}
 use Rattle.draft.specs.declared.errors.Item.TheVariants as item
 use Rattle.draft.specs.declared.errors.PlantError.{PlantError}
 use Rattle.draft.specs.declared.errors.PlantError.TheVariants.{Missing, Refused, NoMemory}

@@ -1,4 +1,6 @@
 // The lines of a plant as they come, and the plant that they make.
+#![tactic(auto)]
+
 mod errors;
 mod finishing;
 mod kinds;
@@ -60,23 +62,25 @@ mod tests {
         match draft.note(12, entry) {
             Ok(()) => Err(Fail::new(line)),
             Err(fault) => {
-                assert_eq!(rt; fault.to_string(rt.alloc())?.as_str(), message);
+                assert_eq!(rt; fault.to_string(rt.alloc())?.as_str(), message, "at {line}");
                 Ok(())
-            },
+            }
         }
     }
 
+    // Why there is no plant; `case` tells which line was another, should it not be so.
     fn check_plant_fault(
         rt: &(impl Abort + AllocGlobal),
         draft: &Draft,
         message: &str,
+        case: &str,
     ) -> Result<(), Fail> {
         match draft.plant(rt.alloc()) {
             Ok(_) => Err(Fail::new(message)),
             Err(fault) => {
-                assert_eq!(rt; fault.to_string(rt.alloc())?.as_str(), message);
+                assert_eq!(rt; fault.to_string(rt.alloc())?.as_str(), message, "at {case}");
                 Ok(())
-            },
+            }
         }
     }
 
@@ -136,7 +140,7 @@ mod tests {
             ("step", "this says nothing of a plant"),
         ];
         for (line, message) in table {
-            check_fault(&rt, &mut draft, line, message).note(line)?;
+            check_fault(&rt, &mut draft, line, message)?;
         }
         let plant = draft.plant(rt.alloc())?;
         assert_eq!(rt; plant.basins, 2);
@@ -150,10 +154,10 @@ mod tests {
 
     #[test]
     fn says_which_count_is_missing(rt: HostRuntime) -> Result<(), Fail> {
-        check_plant_fault(&rt, &Draft::new(), "no line for 'basins'")?;
-        check_plant_fault(&rt, &draft_with(0, "", "")?, "no line for 'basins'")?;
-        check_plant_fault(&rt, &draft_with(1, "", "")?, "no line for 'gauges'")?;
-        check_plant_fault(&rt, &draft_with(2, "", "")?, "no line for 'wrong'")
+        check_plant_fault(&rt, &Draft::new(), "no line for 'basins'", "")?;
+        check_plant_fault(&rt, &draft_with(0, "", "")?, "no line for 'basins'", "")?;
+        check_plant_fault(&rt, &draft_with(1, "", "")?, "no line for 'gauges'", "")?;
+        check_plant_fault(&rt, &draft_with(2, "", "")?, "no line for 'wrong'", "")
     }
 
     // The line at an index is another; `refused NUMBER PLACE`.
@@ -181,7 +185,7 @@ mod tests {
             (8, "gauge 1 2 -1", "refused 7 1"),
         ];
         for (at, line, message) in table {
-            check_plant_fault(&rt, &draft_with(at, line, "")?, message).note(line)?;
+            check_plant_fault(&rt, &draft_with(at, line, "")?, message, line)?;
         }
         Ok(())
     }
@@ -201,12 +205,12 @@ mod tests {
             (6, "rate 2 3 10001", "gauge 40 1 0", "refused 4 4"),
         ];
         for (at, line, more, message) in table {
-            check_plant_fault(&rt, &draft_with(at, line, more)?, message).note(message)?;
+            check_plant_fault(&rt, &draft_with(at, line, more)?, message, more)?;
         }
         let mut draft = draft_with(10, "", "gauge 50 1 0")?;
         note(&mut draft, 12, "gauge 40 1 0")?;
         note(&mut draft, 13, "gauge 60 1 0")?;
-        check_plant_fault(&rt, &draft, "refused 7 40")
+        check_plant_fault(&rt, &draft, "refused 7 40", "")
     }
 
     fn check_strays(

@@ -1,4 +1,6 @@
 // Fault sets: the sets of gauges that a history may take to be wrong, listed in one order.
+#![tactic(auto)]
+
 mod listing;
 mod set;
 

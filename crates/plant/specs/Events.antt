@@ -1,5 +1,5 @@
 -- Which events are taken. Assumes nothing: these are definitions.
-use Rattle.std.specs.Prelude.{ℕ, ◌+◌, cond, ◌||◌, List, [], ◌∷◌, ℤ, pos, neg_ℤ, is_some, Some, None, Option, int_lt, nat_le, nat_lt}
+use Rattle.std.specs.Prelude.{ℕ, ◌+◌, cond, ◌||◌, List, [], ◌∷◌, pos, neg_ℤ, is_some, None, Option, int_lt, nat_le, nat_lt}
 use Rattle.refusal.specs.Order.{when, or_else, first_of}
 use Rattle.refusal.specs.declared.kinds.Refusal.{Refusal}
 use Rattle.refusal.specs.declared.kinds.Refusal.TheVariants as refuses

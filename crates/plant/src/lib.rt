@@ -1,4 +1,6 @@
 // The plant that is followed, and the events that come in.
+#![tactic(auto)]
+
 mod events;
 mod kinds;
 mod making;

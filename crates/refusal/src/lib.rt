@@ -1,4 +1,6 @@
 // What is turned away: one enum for the whole repository. What is refused changes nothing.
+#![tactic(auto)]
+
 ghost use Rattle.std.specs.Prelude.{◌≡◌};
 ghost use Rattle.refusal.specs.Number.{number_of, place_of};
 

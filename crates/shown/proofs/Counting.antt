@@ -1,5 +1,5 @@
 -- One zone more. Assumes nothing.
-use Rattle.std.proofs.Common.{◌≡◌, ℕ, suc, ◌+◌, Bool, true, false, cond, ◌&&◌, ◌||◌, List, get_or, ℤ, Some, None, Option, refl, ap, ◌∙◌, add-one, arith}
+use Rattle.std.proofs.Common.{◌≡◌, ℕ, ◌+◌, Bool, true, false, cond, ◌&&◌, ◌||◌, List, get_or, ℤ, Some, None, Option, refl, ap, ◌∙◌, add-one, arith}
 use Rattle.zones.specs.Numbers.{cell}
 use Rattle.table.specs.Parts.{part}
 use Rattle.faults.specs.declared.set.FaultSet.{FaultSet}

@@ -1,28 +1,27 @@
 -- What the zones of a table say together, in terms of all histories that an observer tracks. Assumes nothing.
-use Rattle.std.proofs.Common.{◌≡◌, ℕ, zero, suc, ◌+◌, ◌*◌, ◌^◌, ◌<◌, ◌≤◌, Bool, true, false, cond, ◌&&◌, ◌||◌, ◌⊎◌, List, length, get_or, ℤ, pos, neg_ℤ, ◌≤ℤ◌, Some, None, vec_items, Decides, Option, sym, refl, ap, ◌∙◌, subst, inl, inr, ⊎_elim, arith}
+use Rattle.std.proofs.Common.{◌≡◌, ℕ, zero, suc, ◌+◌, ◌*◌, ◌^◌, ◌<◌, ◌≤◌, Bool, true, false, cond, ◌&&◌, ◌||◌, ◌⊎◌, List, length, get_or, ℤ, pos, neg_ℤ, ◌≤ℤ◌, Some, None, Decides, Option, sym, refl, ap, ◌∙◌, subst, inl, inr, ⊎_elim, arith}
 use lib.Signed.{lt_z}
 use Rattle.std.proofs.ByRecursion.{All-from_get_or, All-get_or}
 use Rattle.std.proofs.lemmas.Int.{ints}
 use Rattle.std.proofs.lemmas.Bool.{both_ways, cases_eq, true≢false, false≢true}
 use Rattle.std.specs.Int.{int_max}
 use Rattle.std.specs.Option.{option_map}
-use Rattle.theory.specs.Bound.{Bound, none, at_most, Holds, NoLarger}
+use Rattle.theory.specs.Bound.{Bound, none, at_most, Holds}
 use Rattle.theory.specs.Level.{Levels, Ranges, difference}
-use Rattle.theory.specs.Zone.{Canonical, Empty, In}
+use Rattle.theory.specs.Zone.{Canonical}
 use Rattle.theory.specs.History as history
 use Rattle.theory.specs.History.{History, AtMost}
 use Rattle.theory.specs.Possible.{Explained, AlwaysBlamed}
-use Rattle.theory.specs.Promise.{Kept}
 use Rattle.theory.specs.End.{UpperEnd, ShowsUpper}
 use Rattle.theory.proofs.Bounds.{holds_larger}
 use Rattle.theory.proofs.Reach.{reached, unbounded, some_levels}
 use Rattle.theory.proofs.Trajectories.{same_history}
 use Rattle.bounds.specs.Meaning.{bound_of, Sized}
 use Rattle.bounds.proofs.Laws.{le_no_larger}
-use Rattle.zones.specs.Numbers.{cell, zone_of, no_levels, TellsEmpty}
+use Rattle.zones.specs.Numbers.{cell, zone_of, TellsEmpty}
 use Rattle.zones.specs.Change.{Roof}
 use Rattle.zones.proofs.Stepping.{roof_sized}
-use Rattle.zones.proofs.Closing.{no_levels_empty, tells_empty}
+use Rattle.zones.proofs.Closing.{tells_empty}
 use Rattle.faults.specs.declared.set.FaultSet.{FaultSet}
 use Rattle.faults.specs.Sets.{gauge_set, Few, Lists}
 use Rattle.faults.proofs.Represent.{of_listed_sets, few_gauges}

@@ -1,6 +1,6 @@
 -- Laws of what is answered, for every request. Each is a statement, whose proof is owed by a function that has it for its
 -- contract. Assumes nothing.
-use Rattle.std.specs.Prelude.{◌≡◌, ℕ, Bool, true, List, [], ◌∷◌, ◌++◌, ℤ, ◌≤ℤ◌, Ok, Result}
+use Rattle.std.specs.Prelude.{◌≡◌, ℕ, true, List, [], ◌∷◌, ◌++◌, ℤ, ◌≤ℤ◌, Ok}
 use Rattle.theory.specs.Level.{Levels}
 use Rattle.theory.specs.Possible.{Possible}
 use Rattle.faults.specs.Sets.{bit_set}
@@ -17,7 +17,6 @@ use Rattle.shown.specs.declared.kinds.Span.{Span}
 use Rattle.shown.specs.declared.kinds.Span.TheVariants as span
 use Rattle.shown.specs.declared.kinds.Alarm.{Alarm}
 use Rattle.shown.specs.declared.kinds.Alarm.TheVariants as alarm
-use Rattle.shown.specs.declared.kinds.Names.{Names}
 use Rattle.shown.specs.declared.kinds.Request.{Request}
 use Rattle.shown.specs.declared.kinds.Answer.{Answer}
 use Rattle.shown.specs.declared.kinds.Answer.TheVariants as answer

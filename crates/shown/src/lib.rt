@@ -1,4 +1,6 @@
 // What is shown of the levels that are possible.
+#![tactic(auto)]
+
 mod answers;
 mod kinds;
 mod laws;

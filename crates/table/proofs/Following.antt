@@ -1,5 +1,5 @@
 -- How the zone of one fault set follows the events. Assumes nothing.
-use Rattle.std.proofs.Common.{◌≡◌, ℕ, ◌+◌, ◌*◌, ◌<◌, ◌≤◌, Bool, true, false, ◌⊎◌, List, [], ◌∷◌, ℤ, sym, refl, ap, ◌∙◌, subst, inl, inr, ⊎_elim, arith}
+use Rattle.std.proofs.Common.{◌≡◌, ℕ, ◌+◌, ◌*◌, ◌≤◌, Bool, true, false, ◌⊎◌, List, [], ◌∷◌, ℤ, sym, refl, ◌∙◌, subst, inl, inr, arith}
 use Rattle.theory.specs.Level.{Ranges}
 use Rattle.theory.specs.Zone.{Canonical, Empty}
 use Rattle.theory.specs.History as history

@@ -1,14 +1,13 @@
 -- What each public function answers. Assumes nothing: these are definitions.
-use Rattle.std.specs.Prelude.{◌≡◌, ℕ, ◌+◌, Bool, true, false, cond, List, [], ◌∷◌, ◌++◌, length, ℤ, is_some, None, vec_items, vec_len, Option, Result}
+use Rattle.std.specs.Prelude.{◌≡◌, ℕ, ◌+◌, List, [], ◌∷◌, ◌++◌, length, ℤ, None, vec_items, vec_len, Result}
 use Rattle.refusal.specs.Order.{or_else, Answers, Makes}
 use Rattle.refusal.specs.declared.failure.Failure.{Failure}
 use Rattle.refusal.specs.declared.kinds.Refusal.{Refusal}
 use Rattle.faults.specs.declared.set.FaultSet.{FaultSet}
 use Rattle.plant.specs.declared.kinds.Event.{Event}
-use Rattle.plant.specs.declared.kinds.Event.TheVariants as event
 use Rattle.plant.specs.declared.kinds.GaugeReading.{GaugeReading}
 use Rattle.plant.specs.declared.whole.Plant.{Plant}
-use Rattle.plant.specs.Events.{reading_refused, step_refused, event_refused, row_refused, step_count, taken}
+use Rattle.plant.specs.Events.{reading_refused, event_refused, row_refused, step_count, taken}
 use Rattle.plant.specs.Resolve.{placed_reading}
 use Rattle.table.specs.declared.state.Observer.{Observer}
 use Rattle.table.specs.Parts.{table_refused, AllStart, AllStep, AllRead}

@@ -1,4 +1,6 @@
 // The zone table, and the observer that keeps it.
+#![tactic(auto)]
+
 mod core;
 mod entries;
 mod making;

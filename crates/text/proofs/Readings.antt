@@ -1,6 +1,5 @@
 -- A line spells at most one entry, and what is written spells what was to be written. Assumes nothing.
-use Rattle.std.proofs.Common.{◌≡◌, ℕ, suc, ◌^◌, ◌<◌, ◌≤◌, Bool, true, false, cond, eqb, ltb, List, [], ◌∷◌, ◌++◌, map, length, get_or, ℤ, pos, negsuc, neg_ℤ, Some, None, Ok, Err, codes, decimal, Option, Result, sym, refl, ap, ◌∙◌, subst, inl, inr, arith, lit<}
-use Rattle.std.specs.Int.{IsInRange}
+use Rattle.std.proofs.Common.{◌≡◌, ℕ, suc, ◌^◌, ◌<◌, ◌≤◌, Bool, true, false, cond, eqb, ltb, List, [], ◌∷◌, map, length, ℤ, pos, negsuc, neg_ℤ, Some, None, Ok, Err, codes, decimal, Option, Result, sym, refl, ap, ◌∙◌, subst, inl, inr, arith, lit<}
 use Rattle.std.specs.Fmt.{signed_decimal}
 use Rattle.std.specs.List.{AllByRecursion as All}
 use Rattle.std.specs.Str.{all_ascii_digits, bytes_eq}
@@ -12,7 +11,7 @@ use Rattle.text.specs.declared.entry.Entry.TheVariants.{Basins, Gauges, Wrong, R
 use Rattle.text.specs.declared.error.Field.{Field}
 use Rattle.text.specs.declared.error.LineError.{LineError}
 use Rattle.text.specs.Faults as faults
-use Rattle.text.specs.Lines.{HasNul, Says, Unsaid, ByWords, Spells, NoWords, Faulty, Reading, Parses}
+use Rattle.text.specs.Lines.{Says, Unsaid, ByWords, Spells, NoWords, Reading, Parses}
 use Rattle.text.specs.Numbers.{digits, numeral, read_on, value, Fits, Number, Numbers}
 use Rattle.text.specs.Spelling.{name, numbers, fields, spaced, written, Fit}
 use Rattle.text.specs.Words.{letter, split, chopped, words}

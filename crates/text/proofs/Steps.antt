@@ -1,5 +1,5 @@
 -- One number after another. Assumes nothing.
-use Rattle.std.proofs.Common.{◌≡◌, ℕ, List, [], ◌∷◌, ℤ, pos, IsErrAnd, Ok, Err, Result, sym, refl, ap, ◌∙◌, subst, inl, inr, w64, to_z, of_z, Bor, MatchResult}
+use Rattle.std.proofs.Common.{◌≡◌, ℕ, List, [], ◌∷◌, ℤ, pos, IsErrAnd, Ok, Err, Result, sym, refl, ap, ◌∙◌, subst, inr, w64, to_z, of_z, Bor, MatchResult}
 use Rattle.std.proofs.lemmas.Int.{to_z-of_z}
 use Rattle.text.specs.declared.entry.Entry.{Entry}
 use Rattle.text.specs.declared.error.Field.{Field}
@@ -11,7 +11,7 @@ use Rattle.text.specs.declared.kinds.Pair.TheVariants.{Alarm}
 use Rattle.text.specs.declared.kinds.Triple.{Triple}
 use Rattle.text.specs.declared.kinds.Triple.TheVariants.{Range, Rate, Gauge, Read}
 use Rattle.text.specs.declared.words.Words.{Words}
-use Rattle.text.specs.Numbers.{Number, Numbers, Fits}
+use Rattle.text.specs.Numbers.{Number, Numbers}
 use Rattle.text.specs.Faults as faults
 use Rattle.text.specs.Kinds.{counted, count_field, paired, pair_fields, tripled, triple_fields}
 use Rattle.text.specs.Lines.{Names, Refuses, ReadAs, ByWords}

@@ -6,7 +6,7 @@ use Rattle.text.specs.declared.error.LineError.{LineError}
 use Rattle.text.specs.declared.words.Words.{Words}
 use Rattle.text.specs.Words.{split}
 use Rattle.text.specs.Numbers.{Number, Numbers}
-use Rattle.text.specs.Faults.{told, extra, Wrong}
+use Rattle.text.specs.Faults.{Wrong}
 
 -- the words still to come
 abbrev pub left : Words → List (List ℕ)

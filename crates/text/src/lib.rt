@@ -1,4 +1,6 @@
 // One line of the text format: read by `parse`, written by the `Display` of `Entry`.
+#![tactic(auto)]
+
 ghost use Rattle.text.specs.Lines.{Parses};
 
 mod entry;

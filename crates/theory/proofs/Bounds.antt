@@ -1,5 +1,5 @@
 -- Laws of bounds and of differences. Assumes nothing.
-use Rattle.std.proofs.Common.{◌≡◌, ℕ, ◌+◌, ◌<◌, ◌≤◌, Bool, true, false, cond, ◌⊎◌, ℤ, pos, ◌+ℤ◌, neg_ℤ, ◌≤ℤ◌, ◌<ℤ◌, sym, refl, ap, subst, inl, inr, arith}
+use Rattle.std.proofs.Common.{◌≡◌, ℕ, ◌+◌, Bool, true, false, cond, ℤ, pos, ◌+ℤ◌, neg_ℤ, refl, ap, subst, arith}
 use lib.Signed.{lt_z}
 use borrow.Author.Differences.{up, down, ints}
 use Rattle.theory.specs.Bound.{Bound, none, at_most, Holds, NoLarger, sum, sharper, looser, zero_bound, negative}

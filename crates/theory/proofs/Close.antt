@@ -3,15 +3,14 @@
 -- Each sum that replaces a bound already held, so the levels stay. After turn k no bound is larger than a sum through any
 -- m ≤ k: while the bound of k on itself is not negative, row k and column k do not change in turn k, and the four cases of
 -- the two parts being old or new each give it.
-use Rattle.std.proofs.Common.{◌≡◌, ℕ, zero, suc, ◌+◌, ◌<◌, ◌≤◌, Bool, true, false, ◌⊎◌, ℤ, pos, ◌+ℤ◌, sym, refl, ap, ◌∙◌, subst, inl, inr, arith}
-use lib.Signed.{lt_z}
-use borrow.Author.Differences.{up, down, ints}
-use Rattle.theory.specs.Bound.{Bound, none, at_most, Holds, NoLarger, sum, sharper, zero_bound, negative}
+use Rattle.std.proofs.Common.{◌≡◌, ℕ, zero, suc, ◌<◌, ◌≤◌, Bool, true, false, ◌⊎◌, sym, refl, inl, inr, arith}
+use borrow.Author.Differences.{ints}
+use Rattle.theory.specs.Bound.{Bound, Holds, NoLarger, sum, zero_bound, negative}
 use Rattle.theory.specs.Level.{Levels, difference}
-use Rattle.theory.specs.Zone.{Zone, In, SameLevels, Empty, Closed, Floored, Canonical, Tame, meet, relax, relaxed, close}
+use Rattle.theory.specs.Zone.{Zone, In, SameLevels, Empty, Closed, Floored, Tame, relax, relaxed, close}
 use Rattle.theory.specs.Law.{Relaxing, Closing}
 use Rattle.theory.proofs.Bounds.{difference_same, difference_sum, no_larger_refl, no_larger_trans, no_larger_both}
-use Rattle.theory.proofs.Bounds.{holds_larger, holds_sum, sum_no_larger, of_sharper, sharper_left, sharper_right}
+use Rattle.theory.proofs.Bounds.{holds_sum, sum_no_larger, of_sharper, sharper_left, sharper_right}
 use Rattle.theory.proofs.Bounds.{negative_none, not_negative}
 use Rattle.theory.proofs.Tops.{before_or}
 use Rattle.theory.proofs.Meet.{in_larger, meeting}

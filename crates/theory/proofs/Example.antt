@@ -1,11 +1,11 @@
 -- The worked example, computed. Assumes nothing.
-use Rattle.std.proofs.Common.{◌≡◌, ℕ, zero, suc, ◌≤◌, true, List, [], ◌∷◌, ℤ, pos, neg_ℤ, Some, Decides, refl, subst, arith, lit≤}
+use Rattle.std.proofs.Common.{◌≡◌, ℕ, zero, suc, List, [], ◌∷◌, ℤ, neg_ℤ, Some, Decides, refl, subst, arith, lit≤}
 use borrow.Author.Differences.{ints}
 use Rattle.theory.specs.Bound.{at_most}
 use Rattle.theory.specs.Level.{Ordered}
 use Rattle.theory.specs.History.{Placed}
 use Rattle.theory.specs.Possible.{AlwaysWrong}
-use Rattle.theory.specs.Computed.{upper_end, no_history, named}
+use Rattle.theory.specs.Computed.{upper_end, named}
 use Rattle.theory.specs.Example.{ranges, so_far, listed, Names, Figures, Row, row_2, row_3, row_4, row_5, row_8, WorkedExample}
 use Rattle.theory.proofs.Shown.{spans_of, level_spans, naming, no_history_told}
 

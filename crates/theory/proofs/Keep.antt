@@ -1,6 +1,6 @@
 -- How a zone stays kept, event by event, for any zone that is known by its levels and its shape alone: whatever code computes
 -- it. Assumes nothing.
-use Rattle.std.proofs.Common.{◌≡◌, ℕ, Bool, true, false, ◌⊎◌, List, [], ◌∷◌, sym, refl, ◌∙◌, inl, inr}
+use Rattle.std.proofs.Common.{◌≡◌, ℕ, true, false, ◌⊎◌, List, [], ◌∷◌, sym, ◌∙◌, inl, inr}
 use borrow.Author.Tests.{clash}
 use Rattle.theory.specs.Level.{Levels, Ranges, Within, Rates, Moves}
 use Rattle.theory.specs.Zone.{Zone, In, Empty, SameLevels, Canonical}

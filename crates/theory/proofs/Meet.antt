@@ -1,13 +1,13 @@
 -- A zone with its floor, with one more bound, with a reading; the first zone. Assumes nothing.
-use Rattle.std.proofs.Common.{◌≡◌, ℕ, zero, suc, ◌+◌, ◌<◌, ◌≤◌, Bool, true, false, cond, eqb, ℤ, pos, ◌+ℤ◌, neg_ℤ, ◌≤ℤ◌, sym, refl, ap, ◌∙◌, subst, arith, eq-eqb, eqb-true}
-use borrow.Author.Differences.{up, down, ints}
+use Rattle.std.proofs.Common.{◌≡◌, ℕ, ◌≤◌, Bool, true, false, cond, eqb, ℤ, neg_ℤ, ◌≤ℤ◌, sym, refl, subst, arith, eq-eqb, eqb-true}
+use borrow.Author.Differences.{ints}
 use Rattle.std.proofs.lemmas.Bool.Decides.{nat_tests}
-use Rattle.theory.specs.Bound.{Bound, none, at_most, Holds, NoLarger, sum, sharper, zero_bound}
-use Rattle.theory.specs.Level.{Levels, difference, Ranges, Within, Ordered}
-use Rattle.theory.specs.Zone.{Zone, In, SameLevels, Floored, Canonical, Tame, first_zone, floor, meet}
-use Rattle.theory.specs.History.{Reading, Right, meet_reading}
+use Rattle.theory.specs.Bound.{Bound, at_most, Holds, NoLarger, sharper, zero_bound}
+use Rattle.theory.specs.Level.{Levels, difference}
+use Rattle.theory.specs.Zone.{Zone, In, SameLevels, Floored, floor, meet}
+use Rattle.theory.specs.History.{Reading, meet_reading}
 use Rattle.theory.specs.Law.{First, Meeting, MeetingReading}
-use Rattle.theory.proofs.Bounds.{difference_is, difference_flip, no_larger_refl, no_larger_trans, holds_larger, of_sharper}
+use Rattle.theory.proofs.Bounds.{difference_is, no_larger_refl, no_larger_trans, holds_larger, of_sharper}
 use Rattle.theory.proofs.Bounds.{sharper_left, sharper_right}
 
 -- no bound of y is larger than that of z, so its levels are in z

@@ -3,11 +3,11 @@
 -- The lowest level of k in the zone is low (z 0 k). Where the bound of i over j is c, the levels
 -- x k = max (lowest of k, t less the bound of i over k), with t = lowest of j + c, are in the zone, by closedness in both
 -- cases of the max, and x i - x j = c. Where there is no bound, t is as large as you like.
-use Rattle.std.proofs.Common.{◌≡◌, ℕ, zero, suc, ◌+◌, ◌-◌, ◌<◌, ◌≤◌, max, ◌⊎◌, ℤ, pos, ◌+ℤ◌, ◌≤ℤ◌, sym, refl, ap, ◌∙◌, subst, inl, inr, arith}
+use Rattle.std.proofs.Common.{◌≡◌, ℕ, ◌+◌, ◌-◌, ◌≤◌, max, pos, ◌+ℤ◌, ◌≤ℤ◌, refl, subst, arith}
 use borrow.Author.Differences.{up, down, ints}
-use Rattle.theory.specs.Bound.{Bound, none, at_most, Holds, NoLarger, sum, zero_bound}
+use Rattle.theory.specs.Bound.{Bound, none, at_most, Holds, NoLarger}
 use Rattle.theory.specs.Level.{Levels, difference}
-use Rattle.theory.specs.Zone.{Zone, In, SameLevels, Canonical}
+use Rattle.theory.specs.Zone.{Zone, In, Canonical}
 use Rattle.theory.specs.Law.{Reached, Unbounded, Unique}
 use Rattle.theory.proofs.Bounds.{difference_is, no_larger_both}
 

@@ -1,16 +1,16 @@
 -- What is shown, who is named, and that there is no history: over all fault sets. Assumes nothing.
-use Rattle.std.proofs.Common.{◌≡◌, ℕ, ◌≤◌, Bool, true, false, cond, ◌&&◌, ◌||◌, ◌⊎◌, List, [], ◌∷◌, map, ℤ, pos, ◌+ℤ◌, neg_ℤ, ◌≤ℤ◌, Some, None, Decides, Option, sym, refl, ap, ◌∙◌, subst, inl, inr, arith}
+use Rattle.std.proofs.Common.{◌≡◌, ℕ, ◌≤◌, Bool, true, false, ◌&&◌, ◌||◌, ◌⊎◌, List, [], ◌∷◌, map, ℤ, pos, ◌+ℤ◌, neg_ℤ, ◌≤ℤ◌, Some, None, Decides, Option, sym, refl, ◌∙◌, subst, inl, inr, arith}
 use borrow.Author.Differences.{ints}
 use borrow.Author.Tests.{clash}
 use Rattle.std.specs.List.{AllByRecursion as All}
 use Rattle.std.proofs.ByRecursion.{All-weaker}
 use Rattle.theory.specs.Bound.{Bound, none, at_most, Holds, NoLarger, looser}
 use Rattle.theory.specs.Level.{Levels, level, difference, Ranges, Ordered}
-use Rattle.theory.specs.Zone.{Zone, In, Empty, Canonical}
+use Rattle.theory.specs.Zone.{Zone, Canonical}
 use Rattle.theory.specs.History.{Event, Placed, FaultSet, AtMost, History}
-use Rattle.theory.specs.Possible.{Trajectory, began, stepped, stayed, Possible, NonePossible, AlwaysWrong, Explained}
+use Rattle.theory.specs.Possible.{Trajectory, began, stepped, stayed, Possible, Explained}
 use Rattle.theory.specs.Possible.{AlwaysBlamed}
-use Rattle.theory.specs.End.{Least, Greatest, Spans, UpperEnd, ShowsUpper}
+use Rattle.theory.specs.End.{Greatest, Spans, UpperEnd, ShowsUpper}
 use Rattle.theory.specs.Computed.{zone_in, is_empty, zone_after, fault_sets, either, loosest, bound_in, upper_end, all_pass}
 use Rattle.theory.specs.Computed.{no_history, named}
 use Rattle.theory.specs.Promise.{Kept, AllShown, Sharpest, Naming, NoHistory}

@@ -1,5 +1,5 @@
 -- Numbers up to n, and the greatest of f 0 to f n. Assumes nothing.
-use Rattle.std.proofs.Common.{◌≡◌, ℕ, zero, suc, ◌+◌, ◌<◌, ◌≤◌, max, ◌⊎◌, refl, ap, inl, inr, arith}
+use Rattle.std.proofs.Common.{◌≡◌, ℕ, zero, suc, ◌<◌, ◌≤◌, max, ◌⊎◌, ap, inl, inr, arith}
 use native.Mathlib.Decide.{dec_lt}
 
 -- the last number below suc m, or one before it

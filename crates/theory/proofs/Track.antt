@@ -1,12 +1,11 @@
 -- What is computed over lists of bounds is kept, for every list of events. Assumes nothing.
-use Rattle.std.proofs.Common.{◌≡◌, ℕ, zero, suc, ◌+◌, ◌*◌, ◌/◌, ◌%◌, ◌<◌, ◌≤◌, Bool, true, false, cond, ◌||◌, ◌⊎◌, List, [], ◌∷◌, map, get_or, negsuc, Decides, sym, refl, ap, ◌∙◌, subst, ap₂, inl, inr, arith}
+use Rattle.std.proofs.Common.{◌≡◌, ℕ, zero, suc, ◌+◌, ◌*◌, ◌/◌, ◌%◌, ◌<◌, ◌≤◌, Bool, true, false, cond, ◌||◌, ◌⊎◌, List, [], ◌∷◌, get_or, negsuc, Decides, sym, refl, ap, ◌∙◌, ap₂, inl, inr, arith}
 use borrow.Author.Tests.{clash}
-use Rattle.std.specs.List.{range_with_len}
 use Rattle.std.proofs.lemmas.Nat.{mul-add-lt, div-mul-add, mod-mul-add}
 use Rattle.std.proofs.lemmas.List.FromFn.{get_or-map-range_with_len}
-use Rattle.theory.specs.Bound.{Bound, none, at_most, Holds, NoLarger, sum, sharper, zero_bound, negative}
-use Rattle.theory.specs.Level.{Levels, difference, Ranges, Ordered, Rates}
-use Rattle.theory.specs.Zone.{Zone, In, Empty, SameLevels, Closed, Floored, Canonical, Tame, first_zone, widen, floor}
+use Rattle.theory.specs.Bound.{Bound, none, at_most, NoLarger, zero_bound, negative}
+use Rattle.theory.specs.Level.{Ranges, Ordered, Rates}
+use Rattle.theory.specs.Zone.{Zone, Empty, SameLevels, Floored, Canonical, Tame, first_zone, widen, floor}
 use Rattle.theory.specs.Zone.{relax, relaxed, close}
 use Rattle.theory.specs.History.{Reading, meet_reading, Event, step, reads, Placed, FaultSet}
 use Rattle.theory.specs.Computed.{bounds_of, zone_in, turns, contradicts, no_levels, is_empty, closed_bounds, zone_after}

@@ -1,14 +1,14 @@
 -- Each theorem on a concrete instance, so that none has a premise that nobody can meet. Assumes nothing.
-use Rattle.std.proofs.Common.{◌≡◌, ℕ, zero, suc, ◌≤◌, List, [], ◌∷◌, ℤ, pos, ◌≤ℤ◌, refl, arith, lit≤}
+use Rattle.std.proofs.Common.{◌≡◌, ℕ, zero, suc, [], ◌∷◌, ℤ, pos, ◌≤ℤ◌, refl, arith, lit≤}
 use borrow.Author.Differences.{ints}
 use Rattle.theory.specs.Bound.{Bound, none, at_most, zero_bound, NoLarger}
-use Rattle.theory.specs.Level.{Levels, difference, Ranges, Within, Ordered, Moves}
-use Rattle.theory.specs.Zone.{Zone, In, Canonical, Tame, first_zone, widen, relax, close}
-use Rattle.theory.specs.History.{Right, step}
+use Rattle.theory.specs.Level.{Levels, difference, Ranges, Ordered}
+use Rattle.theory.specs.Zone.{In, Canonical, Tame, first_zone, widen, relax, close}
+use Rattle.theory.specs.History.{step}
 use Rattle.theory.specs.Possible.{Possible, NonePossible, Explained}
 use Rattle.theory.specs.Computed.{no_faults, zone_in, zone_after}
 use Rattle.theory.specs.Promise.{Kept}
-use Rattle.theory.specs.Example.{ranges, rates, at_1, at_2, between, so_far}
+use Rattle.theory.specs.Example.{ranges, rates, at_1, at_2, so_far}
 use Rattle.theory.proofs.Bounds.{no_larger_of}
 use Rattle.theory.proofs.Reach.{reached, unbounded, unique}
 use Rattle.theory.proofs.Meet.{first, meeting}

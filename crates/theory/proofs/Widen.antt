@@ -3,10 +3,10 @@
 -- From y in the wider zone the levels x k = max over i of (y i - rise of i - the bound of i over k) are in the zone, and
 -- y can be reached from them: each of the numbers under the max is at most y k + fall of k by the widened bound, and that
 -- of i = k is y k - rise of k.
-use Rattle.std.proofs.Common.{◌≡◌, ℕ, zero, suc, ◌+◌, ◌-◌, ◌<◌, ◌≤◌, Bool, true, false, ◌⊎◌, ℤ, pos, ◌+ℤ◌, ◌≤ℤ◌, sym, refl, ap, ◌∙◌, subst, inl, inr, arith}
+use Rattle.std.proofs.Common.{◌≡◌, ℕ, ◌+◌, ◌-◌, ◌≤◌, true, ◌⊎◌, ℤ, refl, inl, inr, arith}
 use borrow.Author.Differences.{up, down, ints}
 use Rattle.std.proofs.lemmas.Bool.Decides.{nat_tests}
-use Rattle.theory.specs.Bound.{Bound, none, at_most, Holds, NoLarger, sum, zero_bound, negative}
+use Rattle.theory.specs.Bound.{Bound, none, at_most, Holds, zero_bound, negative}
 use Rattle.theory.specs.Level.{Levels, difference, Rates, Moves}
 use Rattle.theory.specs.Zone.{Zone, In, Empty, SameLevels, Closed, Canonical, Tame, widen, floor, close}
 use Rattle.theory.specs.Law.{Widening}

@@ -1,5 +1,5 @@
 -- Bounds on a difference of two levels. Assumes nothing: these are definitions.
-use Rattle.std.specs.Prelude.{Bool, true, false, cond, ℤ, pos, ◌+ℤ◌, ◌≤ℤ◌, ◌<ℤ◌, int_lt}
+use Rattle.std.specs.Prelude.{Bool, false, cond, ℤ, pos, ◌+ℤ◌, ◌≤ℤ◌, int_lt}
 
 -- A bound says by how much, at the most, one level is above another, or that there is none.
 pub data Bound : Type 0 where

@@ -2,11 +2,11 @@
 --
 -- Two basins, ranges 0 to 100, rise 3 and fall 2 for both; gauge 0 at basin 1, gauge 1 at basin 2, gauge 2 at basins 1 and
 -- 2; at most one gauge is wrong.
-use Rattle.std.specs.Prelude.{◌≡◌, ℕ, zero, suc, Bool, true, false, ◌||◌, List, [], ◌∷◌, reverse, take, ℤ, pos, neg_ℤ, Decides, ◌==◌, refl}
+use Rattle.std.specs.Prelude.{ℕ, zero, suc, Bool, false, ◌||◌, List, [], ◌∷◌, reverse, take, ℤ, pos, neg_ℤ, Decides, ◌==◌, refl}
 use Rattle.std.specs.List.{AllByRecursion as All}
 use Rattle.theory.specs.Bound.{Bound, at_most, zero_bound}
 use Rattle.theory.specs.Level.{Levels, level, difference, Ranges, Rates}
-use Rattle.theory.specs.History.{Reading, Event, step, reads}
+use Rattle.theory.specs.History.{Event, step, reads}
 use Rattle.theory.specs.Possible.{Possible, NonePossible, AlwaysWrong}
 use Rattle.theory.specs.End.{Spans}
 

@@ -1,6 +1,6 @@
 -- What the gauges say, sets of gauges that may be wrong, and the histories of levels for such a set.
 -- Assumes nothing: these are definitions.
-use Rattle.std.specs.Prelude.{◌≡◌, ℕ, zero, suc, ◌+◌, ◌≤◌, Bool, true, false, cond, List, [], ◌∷◌, ℤ, neg_ℤ, ◌≤ℤ◌}
+use Rattle.std.specs.Prelude.{◌≡◌, ℕ, zero, suc, ◌+◌, ◌≤◌, Bool, false, cond, List, [], ◌∷◌, ℤ, neg_ℤ, ◌≤ℤ◌}
 use Rattle.theory.specs.Bound.{at_most}
 use Rattle.theory.specs.Level.{Levels, difference, Ranges, Within, Rates, Moves}
 use Rattle.theory.specs.Zone.{Zone, meet}

@@ -1,6 +1,6 @@
 -- What is promised of histories. Each is a statement, whose proof is owed by a function that has it for its contract.
 -- Assumes nothing.
-use Rattle.std.specs.Prelude.{◌≡◌, ℕ, ◌<◌, ◌≤◌, true, false, ◌⊎◌, List, [], ◌∷◌, ◌++◌, ℤ, Decides}
+use Rattle.std.specs.Prelude.{ℕ, ◌≤◌, ◌⊎◌, List, ◌∷◌, ◌++◌, Decides}
 use Rattle.theory.specs.Bound.{Bound, Holds, NoLarger}
 use Rattle.theory.specs.Level.{Levels, difference, Ranges, Ordered}
 use Rattle.theory.specs.Zone.{Zone, In, Canonical, Empty}

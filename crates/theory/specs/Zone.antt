@@ -1,5 +1,5 @@
 -- Zones of levels, and what is done to them. Assumes nothing: these are definitions.
-use Rattle.std.specs.Prelude.{◌≡◌, ℕ, zero, suc, ◌+◌, ◌≤◌, Bool, true, false, cond, ℤ, pos, neg_ℤ, ◌==◌}
+use Rattle.std.specs.Prelude.{◌≡◌, ℕ, zero, suc, ◌+◌, ◌≤◌, cond, pos, neg_ℤ, ◌==◌}
 use Rattle.theory.specs.Bound.{Bound, at_most, Holds, NoLarger, sum, sharper, zero_bound}
 use Rattle.theory.specs.Level.{Levels, difference, Ranges, Rates}
 

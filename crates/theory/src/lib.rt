@@ -1,5 +1,7 @@
 // The theorems on zones and histories, each on the contract of a function: the crate is not proved without its proof.
 // What each says stands in specs/, its proof in proofs/; the functions themselves do nothing.
+#![tactic(auto)]
+
 ghost use Rattle.theory.specs.Example.{WorkedExample};
 ghost use Rattle.theory.specs.Law.{Closing, First, Meeting, MeetingReading, Reached};
 ghost use Rattle.theory.specs.Law.{Relaxing, Unbounded, Unique, Widening};

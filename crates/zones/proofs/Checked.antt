@@ -1,9 +1,9 @@
 -- What is known of input that no check refuses. Assumes nothing.
-use Rattle.std.proofs.Common.{◌≡◌, ℕ, ◌+◌, ◌*◌, ◌<◌, ◌≤◌, Bool, true, not, eqb, List, length, get_or, pos, neg_ℤ, ◌≤ℤ◌, Some, None, Option, refl, ap, ◌∙◌, arith}
+use Rattle.std.proofs.Common.{◌≡◌, ℕ, ◌+◌, ◌*◌, ◌≤◌, not, eqb, List, length, pos, neg_ℤ, ◌≤ℤ◌, None, arith}
 use Rattle.std.proofs.lemmas.Int.{ints}
 use Rattle.std.proofs.lemmas.Bool.Decides.{nat_tests}
 use Rattle.std.specs.Option.{option_map}
-use Rattle.refusal.specs.Order.{when, or_else, first_bad}
+use Rattle.refusal.specs.Order.{when, first_bad}
 use Rattle.refusal.specs.declared.kinds.Refusal.TheVariants as refuses
 use Rattle.refusal.proofs.Orders.{both_none, mapped_none}
 use Rattle.zones.specs.declared.kinds.Reading.{Reading}

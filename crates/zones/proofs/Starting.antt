@@ -1,18 +1,17 @@
 -- The first zone in lent numbers. Assumes nothing.
-use Rattle.std.proofs.Common.{◌≡◌, ℕ, zero, suc, ◌+◌, ◌-◌, ◌^◌, ◌<◌, ◌≤◌, Bool, true, false, cond, eqb, ◌≢◌, List, length, get_or, ℤ, pos, ◌-ℤ◌, neg_ℤ, ◌≤ℤ◌, None, sym, refl, ap, ◌∙◌, subst, ⊎_elim, arith, eq-eqb}
+use Rattle.std.proofs.Common.{◌≡◌, ℕ, zero, suc, ◌-◌, ◌^◌, ◌≤◌, Bool, true, false, cond, eqb, ◌≢◌, List, get_or, ℤ, pos, ◌-ℤ◌, neg_ℤ, ◌≤ℤ◌, None, refl, ap, ◌∙◌, arith}
 use Rattle.std.proofs.lemmas.Int.{ints}
-use Rattle.std.proofs.lemmas.Bool.{cases_eq}
 use Rattle.std.proofs.lemmas.Bool.Decides.{nat_tests}
 use Rattle.refusal.proofs.Firsts.{each}
-use Rattle.theory.specs.Bound.{Bound, at_most, NoLarger, sum, zero_bound}
-use Rattle.theory.specs.Level.{Levels, Within, Ordered}
-use Rattle.theory.specs.Zone.{Zone, In, Canonical, first_zone}
+use Rattle.theory.specs.Bound.{at_most, sum, zero_bound}
+use Rattle.theory.specs.Level.{Ordered}
+use Rattle.theory.specs.Zone.{first_zone}
 use Rattle.theory.proofs.Meet.{first}
 use Rattle.theory.proofs.Track.{Same, same_levels, same_canonical}
 use Rattle.bounds.specs.Meaning.{bound_of}
 use Rattle.zones.specs.declared.kinds.Range.{Range}
 use Rattle.zones.specs.Checks.{range_ok, range_refused}
-use Rattle.zones.specs.Change.{least_of, most_of, first_number, ranges_of, Roof, Starts}
+use Rattle.zones.specs.Change.{least_of, most_of, first_number, ranges_of, Starts}
 use Rattle.zones.specs.Numbers.{cell, zone_of}
 use Rattle.zones.proofs.Checked.{ranges_ok}
 use Rattle.zones.proofs.Writing.{bound_is}

@@ -1,6 +1,6 @@
 -- What the first zone, a step and a reading leave of a zone in lent numbers. Assumes nothing: these are definitions.
 use Rattle.std.specs.Prelude.{◌≡◌, ℕ, zero, suc, ◌+◌, ◌^◌, ◌≤◌, cond, ◌⊎◌, List, ℤ, pos, ◌-ℤ◌, ◌==◌, slice_index_or, refl}
-use Rattle.theory.specs.Bound.{Bound, at_most, NoLarger, zero_bound}
+use Rattle.theory.specs.Bound.{at_most, NoLarger}
 use Rattle.theory.specs.Level.{Levels, Ranges, Within, Rates, Moves}
 use Rattle.theory.specs.Zone.{In, Empty, Canonical}
 use Rattle.theory.specs.History.{Right}

@@ -1,6 +1,6 @@
 -- What is refused before a zone is touched. Where several apply, the smallest number decides, and then the smallest place.
 -- Assumes nothing: these are definitions.
-use Rattle.std.specs.Prelude.{ℕ, ◌+◌, ◌*◌, Bool, not, ◌&&◌, ◌||◌, List, length, ℤ, pos, neg_ℤ, Option, ◌==◌, int_lt, nat_le, nat_lt}
+use Rattle.std.specs.Prelude.{ℕ, ◌+◌, ◌*◌, Bool, not, ◌&&◌, ◌||◌, List, length, pos, neg_ℤ, Option, ◌==◌, int_lt, nat_le, nat_lt}
 use Rattle.std.specs.Option.{option_map}
 use Rattle.refusal.specs.Order.{when, or_else, first_bad}
 use Rattle.refusal.specs.declared.kinds.Refusal.{Refusal}

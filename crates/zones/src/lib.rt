@@ -3,6 +3,8 @@
 // A zone of n basins, 1 to 8, is (n + 1) × (n + 1) numbers, row by row. The number in row i and column j is the bound on how
 // far level i is above level j; number 0 is the datum, whose level is 0. `bounds::NONE` stands for no bound. What no levels
 // are in is written as one pattern: -1 everywhere, so that the datum would be below itself.
+#![tactic(auto)]
+
 mod checks;
 mod first;
 mod kinds;

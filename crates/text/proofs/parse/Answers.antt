@@ -1,4 +1,4 @@
-use Rattle.std.proofs.Common.{◌≡◌, ℕ, Bool, true, false, sym, refl, ◌∙◌, inl, inr, lit<}
+use Rattle.std.proofs.Common.{sym, refl, ◌∙◌, inl, inr, lit<}
 use Rattle.std.proofs.lemmas.Str.Pattern.{contains_char}
 use Rattle.text.specs.Lines.{HasNul, Says, Unsaid}
 use Rattle.text.proofs.Readings.{parses}

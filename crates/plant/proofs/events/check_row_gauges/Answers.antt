@@ -1,4 +1,4 @@
-use Rattle.std.proofs.Common.{◌≡◌, Some, None, sym, ap, ◌∙◌, rules}
+use Rattle.std.proofs.Common.{◌≡◌, Some, ap, ◌∙◌, rules}
 use Rattle.refusal.specs.Order.{first_of}
 use Rattle.refusal.proofs.Firsts.{found_here, clear_next, all_clear}
 use Rattle.plant.specs.declared.kinds.Event.TheVariants.{Step}

@@ -1,6 +1,5 @@
-use Rattle.std.proofs.Common.{◌≡◌, Some, None, vec_len, Option, sym, ap, ◌∙◌, subst, rules}
+use Rattle.std.proofs.Common.{◌≡◌, Some, None, vec_len, ap, ◌∙◌, subst, rules}
 use Rattle.refusal.specs.Order.{or_else}
-use Rattle.refusal.specs.declared.kinds.Refusal.{Refusal}
 use Rattle.refusal.proofs.Orders.{both_none, neither}
 use Rattle.plant.specs.Events.{readings_refused, steps_refused}
 use Rattle.plant.specs.declared.whole.Plant.{Plant}

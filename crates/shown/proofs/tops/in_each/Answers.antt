@@ -1,4 +1,4 @@
-use Rattle.std.proofs.Common.{◌≡◌, sym, ap, ◌∙◌}
+use Rattle.std.proofs.Common.{sym, ap, ◌∙◌}
 use Rattle.faults.specs.declared.set.FaultSet.{FaultSet}
 use Rattle.faults.specs.Sets.{gauge_set}
 use Rattle.table.proofs.Parting.{part_within}

@@ -1,4 +1,4 @@
-use Rattle.std.proofs.Common.{◌≡◌, true, false, ℤ, Some, Option, sym, ap, ◌∙◌, ap₂, arith, w64, SFits, rules}
+use Rattle.std.proofs.Common.{◌≡◌, true, false, ℤ, Some, Option, sym, ◌∙◌, ap₂, arith, w64, SFits, rules}
 use Rattle.std.proofs.lemmas.Bool.Decides.{nat_tests}
 use Rattle.std.proofs.lemmas.Int.{to_z-of_z}
 use Rattle.zones.specs.Numbers.{cell}

@@ -1,4 +1,4 @@
-use Rattle.std.proofs.Common.{◌+◌, ◌*◌, ◌≤◌, length, ◌∙◌, arith}
+use Rattle.std.proofs.Common.{◌+◌, ◌*◌, ◌≤◌, length, arith}
 use Rattle.zones.specs.Change.{Steps}
 use Rattle.zones.specs.Checks.{rate_refused, size_refused}
 use Rattle.table.specs.Parts.{part, size}

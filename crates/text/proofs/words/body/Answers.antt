@@ -1,4 +1,4 @@
-use Rattle.std.proofs.Common.{sym, refl, ap, ◌∙◌, lit<}
+use Rattle.std.proofs.Common.{refl, ap, ◌∙◌, lit<}
 use Rattle.std.proofs.lemmas.Str.Pattern.{strip_suffix_char}
 use Rattle.text.proofs.Splits.{chopped_by}
 use Rattle.text.specs.Words.{chopped}

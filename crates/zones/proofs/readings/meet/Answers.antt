@@ -1,5 +1,4 @@
-use Rattle.std.proofs.Common.{◌≡◌, length, None, refl, ap, ◌∙◌}
-use Rattle.refusal.specs.Order.{or_else}
+use Rattle.std.proofs.Common.{length}
 use Rattle.zones.specs.Checks.{size_refused, reading_refused}
 use Rattle.refusal.proofs.Orders.{neither}
 use Rattle.zones.proofs.Checked.{size_ok}

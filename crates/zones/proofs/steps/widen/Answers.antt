@@ -1,6 +1,6 @@
 -- The loops put what a step makes of each number in its place.
-use Rattle.std.proofs.Common.{◌≡◌, ℕ, ◌+◌, ◌*◌, ◌<◌, ◌≤◌, Bool, true, cond, eqb, ◌≢◌, List, length, get_or, set, ℤ, pos, ◌+ℤ◌, ◌≤ℤ◌, None, sym, refl, ap, ◌∙◌, subst, arith, w64, SFits, to_z, of_z, rules, eq-eqb}
-use Rattle.std.proofs.lemmas.Int.{ints, to_z-of_z}
+use Rattle.std.proofs.Common.{◌≡◌, ℕ, ◌+◌, ◌*◌, ◌<◌, ◌≤◌, ◌≢◌, List, length, get_or, ℤ, pos, ◌+ℤ◌, None, sym, ap, ◌∙◌, subst, arith, w64, SFits, to_z, of_z}
+use Rattle.std.proofs.lemmas.Int.{ints}
 use Rattle.std.proofs.lemmas.Bool.Decides.{nat_tests}
 use Rattle.bounds.specs.Meaning.{total_sum}
 use Rattle.zones.specs.Change.{rise_of, fall_of}
@@ -8,8 +8,8 @@ use Rattle.zones.specs.Numbers.{cell}
 use Rattle.zones.specs.declared.kinds.Rate.{Rate}
 use Rattle.zones.specs.Checks.{rate_refused}
 use Rattle.zones.proofs.Checked.{rates_ok}
-use Rattle.zones.proofs.Cells.{place, place_within}
-use Rattle.zones.proofs.Filling.{Filled, at, filled_none, filled_write, filled_skip, filled_row, filled_all}
+use Rattle.zones.proofs.Cells.{place}
+use Rattle.zones.proofs.Filling.{Filled, filled_none, filled_write, filled_skip, filled_row, filled_all}
 use Rattle.zones.proofs.Stepping.{grow, rise_within, fall_within}
 use Rattle.zones.proofs.steps.widen.Goals as goal
 use Rattle.zones.proofs.steps.widen.Goals.{then-i-j, else-i-j}

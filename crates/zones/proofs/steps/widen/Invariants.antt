@@ -1,5 +1,5 @@
 -- The places that have grown.
-use Rattle.std.proofs.Common.{ℕ, ◌+◌, cond, eqb, ℤ, pos}
+use Rattle.std.proofs.Common.{pos}
 use Rattle.zones.proofs.Cells.{place}
 use Rattle.zones.proofs.Filling.{Filled}
 use Rattle.zones.proofs.Stepping.{grow}

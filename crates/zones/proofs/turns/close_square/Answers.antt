@@ -1,6 +1,6 @@
-use Rattle.std.proofs.Common.{◌≡◌, ◌+◌, ◌*◌, true, false, length, replicate, negsuc, sym, refl, ap, ◌∙◌, subst, arith}
+use Rattle.std.proofs.Common.{◌≡◌, replicate, negsuc, refl, ap, ◌∙◌, arith}
 use Rattle.theory.specs.Zone.{Empty}
-use Rattle.zones.specs.Numbers.{zone_of, no_levels, Settles, Turns}
+use Rattle.zones.specs.Numbers.{zone_of, no_levels}
 use Rattle.zones.proofs.Closing.{closes_empty, closes_turned}
 use Rattle.zones.proofs.turns.close_square.Goals as goal
 use Rattle.zones.proofs.turns.close_square.Goals.{then-not-settle-via-then-not-settle}

@@ -1,9 +1,9 @@
 -- The loops do what Turning says of each place, row and turn.
-use Rattle.std.proofs.Common.{◌≡◌, ℕ, ◌+◌, ◌*◌, ◌<◌, ◌≤◌, true, false, length, get_or, set, ℤ, pos, ◌<ℤ◌, sym, refl, ap, ◌∙◌, subst, arith, w64, SFits, to_z, of_z, rules}
+use Rattle.std.proofs.Common.{◌≡◌, ◌+◌, ◌*◌, true, false, length, get_or, set, pos, sym, refl, ap, ◌∙◌, subst, arith, w64, SFits, to_z, of_z, rules}
 use lib.Signed.{lt_z}
 use Rattle.std.proofs.lemmas.Int.{ints, to_z-of_z}
 use Rattle.bounds.specs.Meaning.{total_sum}
-use Rattle.zones.specs.Numbers.{cell, zone_of, ZeroDiagonal}
+use Rattle.zones.specs.Numbers.{cell, zone_of}
 use Rattle.zones.proofs.Cells.{place, place_within, cell_same}
 use Rattle.zones.proofs.Turning.{Turned, Begun, begun_none, begun_more, begun_empty, begun_all, turned_none, turned_more}
 use Rattle.zones.proofs.Turning.{row_write, row_skip, row_done, diagonal_write, zero_is}

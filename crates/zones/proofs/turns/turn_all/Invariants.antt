@@ -1,5 +1,5 @@
 -- What each loop has done so far: places of this turn, rows of this turn, turns.
-use Rattle.std.proofs.Common.{◌≡◌, ◌+◌, ◌*◌, true}
+use Rattle.std.proofs.Common.{◌≡◌, true}
 use Rattle.zones.specs.Numbers.{zone_of, ZeroDiagonal}
 use Rattle.zones.proofs.Cells.{place}
 use Rattle.zones.proofs.Turning.{Turned, Begun}

@@ -1,8 +1,7 @@
-use Rattle.std.proofs.Common.{◌≡◌, ◌+◌, ◌*◌, ◌<◌, length, get_or, pos, ap, ◌∙◌, arith, w64, SFits, rules}
+use Rattle.std.proofs.Common.{get_or, pos, ap, ◌∙◌, arith, w64, SFits, rules}
 use lib.Signed.{lt_z}
-use Rattle.std.proofs.lemmas.Int.{ints, to_z-of_z}
+use Rattle.std.proofs.lemmas.Int.{to_z-of_z}
 use Rattle.zones.specs.Numbers.{cell}
-use Rattle.zones.proofs.Checked.{size_ok}
 use Rattle.zones.proofs.Closing.{tells_empty}
 use Rattle.zones.proofs.whole.is_empty.Goals as goal
 

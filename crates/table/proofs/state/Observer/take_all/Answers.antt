@@ -1,4 +1,4 @@
-use Rattle.std.proofs.Common.{◌≡◌, ◌+◌, true, false, get_or, is_ok, sym, ◌∙◌, subst, arith, rules}
+use Rattle.std.proofs.Common.{get_or, sym, ◌∙◌, rules}
 use Rattle.plant.specs.declared.kinds.Event.TheVariants.{Step}
 use Rattle.table.proofs.Tracking.{underway_none, underway_skip, underway_more, underway_all, when_taken, when_refused}
 use Rattle.table.proofs.state.Observer.take_all.Goals as goal

@@ -1,4 +1,4 @@
-use Rattle.std.proofs.Common.{ℕ, List, IsUtf8, sym, refl, subst}
+use Rattle.std.proofs.Common.{IsUtf8, refl, subst}
 use Rattle.text.specs.Words.{blank, letter, Front}
 use Rattle.text.proofs.Splits.{gap_cut, word_cut, no_word, one_word}
 use Rattle.text.proofs.words.Words.next.Goals as goal
