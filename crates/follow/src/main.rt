@@ -1,4 +1,6 @@
 // follow [FILE]: reads the plant, the steps and the readings line by line, and answers each request.
+#![tactic(auto)]
+
 ghost use Rattle.std.specs.Prelude.{◌≡◌, IfOk};
 ghost use Rattle.follow.specs.Counted.{Once};
 

@@ -1,5 +1,7 @@
 // Times a step and a reading of the whole zone table, of 8 basins and 12 gauges with 79 fault sets: table_bench ROUNDS.
 // Without ROUNDS it prints what a few rounds leave; bench/table.rs, the same in plain Rust, must print the same.
+#![tactic(auto)]
+
 use anyhow::anyhow;
 use plant::{Gauge, GaugeReading, Plant};
 use refusal::Failure;

@@ -1,5 +1,7 @@
 // Times the closing, the step and the reading of a zone of eight basins: zone_bench ROUNDS.
 // Without ROUNDS it prints what a few rounds leave; bench/zones.rs, the same in plain Rust, must print the same.
+#![tactic(auto)]
+
 use std::env;
 use std::time::Instant;
 use zones::{Range, Rate, Reading};
