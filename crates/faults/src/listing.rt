@@ -1,13 +1,13 @@
 // The fault sets in order: by how many gauges they have, and then by value.
 ghost use Rattle.std.specs.Prelude.{◌≡◌, ◌^◌, ◌<◌, ◌≤◌, ◌++◌, length, IfOk, Some, None, MatchOption, MatchResult};
 ghost use Rattle.std.specs.List.{HoldsAt};
-ghost use Rattle.refusal.specs.Order.{Found, Makes};
-ghost use Rattle.faults.specs.Limits.{refusal_of};
+ghost use Rattle.faults.specs.Limits.{Fails, refusal_of};
 ghost use Rattle.faults.specs.Sets.{Common, Lists, NumberOf, of_size};
 ghost use Rattle.faults.specs.Represents.{Represents};
 
+use crate::error::FaultsError;
 use crate::set::FaultSet;
-use refusal::{Failure, Refusal};
+use refusal::Refusal;
 use std::alloc::{AllocError, Global};
 
 // The most gauges, and the most of them that may be wrong. The listing itself is proved for 16 and 3.
@@ -17,7 +17,7 @@ pub const MAX_WRONG: u32 = 2;
 
 // Whether so many gauges, and so many wrong ones among them, are taken.
 pub fn check_limits(gauges: u32, wrong: u32) -> Result<(), Refusal>
-    ensures { Found result (refusal_of gauges wrong) }
+    ensures { MatchResult result (λ _. refusal_of gauges wrong ≡ None) (λ e. refusal_of gauges wrong ≡ Some e) }
 {
     if gauges < 1 || gauges > MAX_GAUGES {
         return Err(Refusal::Gauges);
@@ -66,8 +66,9 @@ fn list(heap: Global, gauges: u32, wrong: u32) -> Result<Vec<FaultSet>, AllocErr
 }
 
 // Every set of at most `wrong` of the gauges, once, in order.
-pub fn fault_sets(heap: Global, gauges: u32, wrong: u32) -> Result<Vec<FaultSet>, Failure>
-    ensures listed { Makes result (refusal_of gauges wrong) (λ v. Lists wrong gauges v.items) }
+pub fn fault_sets(heap: Global, gauges: u32, wrong: u32) -> Result<Vec<FaultSet>, FaultsError>
+    ensures listed { MatchResult result (λ v. (refusal_of gauges wrong ≡ None) × Lists wrong gauges v.items)
+        (Fails gauges wrong) }
     ensures represents { IfOk result (λ v. Represents wrong gauges v.items) }
 {
     check_limits(gauges, wrong)?;

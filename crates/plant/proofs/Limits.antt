@@ -6,7 +6,7 @@ use Rattle.refusal.proofs.Firsts.{each}
 use Rattle.refusal.proofs.Orders.{both_none, mapped_none}
 use Rattle.zones.specs.declared.kinds.Range.{Range}
 use Rattle.zones.specs.declared.kinds.Rate.{Rate}
-use Rattle.zones.specs.Checks.{basins_refused, range_refused, rate_refused}
+use Rattle.zones.specs.Checks.{basins_refused, range_refused, ranges_refused, rate_refused, rates_refused}
 use Rattle.faults.specs.Limits.{refusal_of}
 use Rattle.plant.specs.declared.kinds.Gauge.{Gauge}
 use Rattle.plant.specs.Checks.{lengths_refused, placed, placement_refused, plant_refused}
@@ -19,14 +19,14 @@ not_some (Some x) e = grind arith
 module _ (n f : ℕ) (ranges : List Range) (rates : List Rate) (gauges : List Gauge)
     (limits : is_some (plant_refused n f ranges rates gauges) ≡ false) where
   taken : (basins_refused n ≡ None) × (refusal_of (length gauges) f ≡ None)
-      × (lengths_refused n (length rates) (length ranges) ≡ None) × (rate_refused n rates ≡ None)
-      × (range_refused n ranges ≡ None) × (placement_refused n gauges ≡ None)
+      × (lengths_refused n (length rates) (length ranges) ≡ None) × (rates_refused n rates ≡ None)
+      × (ranges_refused n ranges ≡ None) × (placement_refused n gauges ≡ None)
   taken =
       let a = both_none (basins_refused n) _ (not_some (plant_refused n f ranges rates gauges) limits) in
       let b = both_none (refusal_of (length gauges) f) _ a.1 in
       let c = both_none (lengths_refused n (length rates) (length ranges)) _ b.1 in
-      let d = both_none (rate_refused n rates) _ c.1 in
-      let e = both_none (range_refused n ranges) _ d.1 in
+      let d = both_none (rates_refused n rates) _ c.1 in
+      let e = both_none (ranges_refused n ranges) _ d.1 in
       (a.0, b.0, c.0, d.0, e.0, e.1)
 
   pub basins_within : (1 ≤ n) × (n ≤ 8)
@@ -36,10 +36,10 @@ module _ (n f : ℕ) (ranges : List Range) (rates : List Rate) (gauges : List Ga
   count_taken = taken.1
 
   pub rates_taken : rate_refused n rates ≡ None
-  rates_taken = taken.3
+  rates_taken = (both_none (basins_refused n) (rate_refused n rates) taken.3).1
 
   pub ranges_taken : range_refused n ranges ≡ None
-  ranges_taken = taken.4
+  ranges_taken = (both_none (basins_refused n) (range_refused n ranges) taken.4).1
 
   pub gauge_placed : (a : ℕ) → a < length gauges →
       ((gauge_at gauges a).first ≤ n) × ((gauge_at gauges a).second ≤ n)

@@ -7,7 +7,7 @@ use Rattle.refusal.specs.declared.kinds.Refusal.{Refusal}
 use Rattle.refusal.specs.declared.kinds.Refusal.TheVariants as refuses
 use Rattle.zones.specs.declared.kinds.Range.{Range}
 use Rattle.zones.specs.declared.kinds.Rate.{Rate}
-use Rattle.zones.specs.Checks.{basins_refused, range_refused, rate_refused}
+use Rattle.zones.specs.Checks.{basins_refused, ranges_refused, rates_refused}
 use Rattle.faults.specs.Limits.{refusal_of}
 use Rattle.plant.specs.declared.kinds.Gauge.{Gauge}
 
@@ -29,5 +29,5 @@ plant_refused n f ranges rates gauges =
     or_else (basins_refused n)
     (or_else (refusal_of (length gauges) f)
     (or_else (lengths_refused n (length rates) (length ranges))
-    (or_else (rate_refused n rates)
-    (or_else (range_refused n ranges) (placement_refused n gauges)))))
+    (or_else (rates_refused n rates)
+    (or_else (ranges_refused n ranges) (placement_refused n gauges)))))

@@ -63,8 +63,8 @@ impl Plant {
         zones::check_basins(basins)?;
         check_count(gauges.len(), wrong)?;
         check_lengths(basins, rates.len(), ranges.len())?;
-        zones::check_rates(basins, &rates)?;
-        zones::check_ranges(basins, &ranges)?;
+        zones::check_basin_rates(basins, &rates)?;
+        zones::check_basin_ranges(basins, &ranges)?;
         if let Some(i) = bad_gauge(basins, &gauges) {
             return Err(Refusal::Placement(i as u32));
         }

@@ -49,11 +49,11 @@ module _ (n k : ℕ) (start : Ranges) (w : history.FaultSet) (es : List history.
       go : AtRest n k xs → Follows n (k + 1) start w (history.step (rates_of rs) ∷ es) ys
       go (inl e) = record { rest = inl (s.empty e); kept = still_none (history.step (rates_of rs)) e (s.empty e) }
       go (inr (ca, ro)) =
+          let left = s.exact ca (sized ca ro) in
           let high = s.roof (100000 + 10000 * k) (omega arith) ca ro in
           record {
-            rest = inr (high.0, subst (λ h. Roof h n ys) (omega arith) high.1);
-            kept = kept_step n start w es (zone_of n xs) f.kept (zone_of n ys) (rates_of rs) (inl high.0) s.sound
-                (s.exact (sized ca ro)).1;
+            rest = inr (left.0, subst (λ h. Roof h n ys) (omega arith) high);
+            kept = kept_step n start w es (zone_of n xs) f.kept (zone_of n ys) (rates_of rs) (inl left.0) s.sound left.1;
           }
 
   -- ---- a reading

@@ -9,7 +9,6 @@ use Rattle.refusal.proofs.Orders.{both_none, mapped_none}
 use Rattle.zones.specs.declared.kinds.Reading.{Reading}
 use Rattle.zones.specs.declared.kinds.Range.{Range}
 use Rattle.zones.specs.declared.kinds.Rate.{Rate}
-use Rattle.zones.specs.Checks.{basins_refused}
 use Rattle.zones.specs.Checks.{size_refused, reading_refused, range_ok, range_refused, rise_ok, fall_ok, rate_refused}
 
 pub size_ok : (n len : ℕ) → size_refused n len ≡ None → (1 ≤ n) × (n ≤ 8) × (len ≡ (n + 1) * (n + 1))
@@ -30,7 +29,7 @@ reading_ok n r e = (
 pub rates_ok : (n : ℕ) (rs : List Rate) → rate_refused n rs ≡ None → (length rs ≡ n) × (first_bad rise_ok 0 rs ≡ None)
     × (first_bad fall_ok 0 rs ≡ None)
 rates_ok n rs e =
-    let a = both_none (when (not (eqb (length rs) n)) (refuses.Length (length rs))) _ (both_none (basins_refused n) _ e).1 in
+    let a = both_none (when (not (eqb (length rs) n)) (refuses.Length (length rs))) _ e in
     let b = both_none (option_map (λ i. refuses.Rate (i + 1)) (first_bad rise_ok 0 rs)) _ a.1 in
     let l = a.0 in
     (grind (arith, nat_tests), mapped_none _ (first_bad rise_ok 0 rs) b.0, mapped_none _ (first_bad fall_ok 0 rs) b.1)
@@ -38,6 +37,6 @@ rates_ok n rs e =
 -- ranges for each basin, in order
 pub ranges_ok : (n : ℕ) (rs : List Range) → range_refused n rs ≡ None → (length rs ≡ n) × (first_bad range_ok 0 rs ≡ None)
 ranges_ok n rs e =
-    let a = both_none (when (not (eqb (length rs) n)) (refuses.Length (length rs))) _ (both_none (basins_refused n) _ e).1 in
+    let a = both_none (when (not (eqb (length rs) n)) (refuses.Length (length rs))) _ e in
     let l = a.0 in
     (grind (arith, nat_tests), mapped_none _ (first_bad range_ok 0 rs) a.1)

@@ -7,8 +7,8 @@ use Rattle.theory.specs.Zone.{In, Empty}
 use Rattle.theory.proofs.Bounds.{difference_same, no_larger_trans}
 use Rattle.theory.proofs.Reach.{some_levels}
 use Rattle.bounds.specs.Meaning.{bound_of, Sized}
-use Rattle.zones.specs.Numbers.{cell, zone_of, no_levels, AllSized, limit, Settles, Turns}
-use Rattle.zones.specs.Numbers.{ClosedForm, Closes, TellsEmpty}
+use Rattle.zones.specs.Numbers.{cell, zone_of, no_levels, AllSized, closing_reach, Settles, TurnsFar}
+use Rattle.zones.specs.Numbers.{FarForm, ClosesFar, TellsEmpty}
 use Rattle.zones.proofs.Cells.{place_within}
 use Rattle.zones.proofs.Turning.{below_itself}
 use Rattle.zones.proofs.Writing.{bound_is}
@@ -38,21 +38,21 @@ not_below : (v : ℤ) → bound_of v ≡ zero_bound → lt_z v (pos 0) ≡ false
 unfolding bound_of
 not_below v e = grind (arith, ints)
 
-pub closes_empty : (n : ℕ) (xs ys : List ℤ) → Empty n (zone_of n xs) → ys ≡ no_levels n → Closes n xs ys
+pub closes_empty : (n : ℕ) (xs ys : List ℤ) → Empty n (zone_of n xs) → ys ≡ no_levels n → ClosesFar n xs ys
 closes_empty n xs ys none_in e = record {
   levels = λ x. (λ p. absurd (none_in x p), λ p. absurd (no_levels_empty n x (subst (λ zs. In n (zone_of n zs) x) e p)));
   form = inl e;
   sized = λ k _ _. subst (AllSized (2 ^ (k + 9)) n) (sym e) (no_levels_sized n (2 ^ (k + 9)) (pow_pos (k + 9)));
 }
 
-pub closes_turned : (n : ℕ) (xs ys zs : List ℤ) → Settles n xs true ys → Turns n ys true zs → Closes n xs zs
+pub closes_turned : (n : ℕ) (xs ys zs : List ℤ) → Settles n xs true ys → TurnsFar n ys true zs → ClosesFar n xs zs
 closes_turned n xs ys zs s t = record {
   levels = λ x. let u = s.levels x in let v = t.levels x in (λ p. v.0 (u.0 p), λ p. u.1 (v.1 p));
   form = inr (
     λ i j hi hj. no_larger_trans (zone_of n zs i j) (zone_of n ys i j) (zone_of n xs i j) (t.smaller i j hi hj)
         (s.smaller i j hi hj),
     λ sized. record {
-      closed = t.closed refl (s.sized limit sized);
+      closed = t.closed refl (s.sized closing_reach sized);
       floored = λ i hi. no_larger_trans (zone_of n zs 0 i) (zone_of n ys 0 i) zero_bound (t.smaller 0 i (omega arith) hi)
           (s.floored refl i hi);
     },
@@ -61,10 +61,10 @@ closes_turned n xs ys zs s t = record {
 }
 
 -- what a closing leaves of numbers without levels
-pub closes_none : (n : ℕ) (xs ys : List ℤ) → Closes n xs ys → AllSized limit n xs → Empty n (zone_of n xs) → ys ≡ no_levels n
+pub closes_none : (n : ℕ) (xs ys : List ℤ) → ClosesFar n xs ys → AllSized closing_reach n xs → Empty n (zone_of n xs) → ys ≡ no_levels n
 closes_none n xs ys c s none_in = go c.form
   where
-    go : ClosedForm n xs ys → ys ≡ no_levels n
+    go : FarForm n xs ys → ys ≡ no_levels n
     go (inl e) = e
     go (inr (sm, ca)) = let l = some_levels n (zone_of n ys) (ca s) in absurd (none_in l.0 ((c.levels l.0).1 l.1))
 

@@ -6,6 +6,7 @@ pub mod Closing
 pub mod Filling
 pub mod Checked
 pub mod Meeting
+pub mod Near
 pub mod Stepping
 pub mod Starting
 pub mod Sizes

@@ -26,8 +26,8 @@ sizes_hold n k xs h (stepped j rs ws ys r s) = go (sizes_hold n j ws (omega arit
     go : (ws ≡ no_levels n) ⊎ AtRest n j ws → (ys ≡ no_levels n) ⊎ AtRest n (j + 1) ys
     go (inl e) = inl (s.empty e)
     go (inr (ca, ro, sized)) =
-        let next = s.roof (100000 + 10000 * j) (omega arith) ca ro in
-        inr (rests n (j + 1) ys (omega arith) next.0 (subst (λ v. Roof v n ys) (omega arith) next.1))
+        let high = s.roof (100000 + 10000 * j) (omega arith) ca ro in
+        inr (rests n (j + 1) ys (omega arith) (s.exact ca sized).0 (subst (λ v. Roof v n ys) (omega arith) high))
 sizes_hold n k xs h (met j r ws ys run s) = go (sizes_hold n j ws h run) s.form
   where
     go : (ws ≡ no_levels n) ⊎ AtRest n j ws →

@@ -14,9 +14,9 @@ use Rattle.theory.proofs.Widen.{origin, origin_in, origin_moves, stays}
 use Rattle.bounds.specs.Meaning.{bound_of, total_sum, Sized}
 use Rattle.bounds.proofs.Laws.{sum_exact, sum_never_sharper, sized_sum, sized_more}
 use Rattle.zones.specs.declared.kinds.Rate.{Rate}
-use Rattle.zones.specs.Numbers.{cell, zone_of, no_levels, AllSized, limit, Widens, ClosedForm, Closes}
+use Rattle.zones.specs.Numbers.{cell, zone_of, no_levels, AllSized, closing_reach, Widens, FarForm, ClosesFar}
 use Rattle.zones.specs.Checks.{rise_ok, fall_ok, rate_refused}
-use Rattle.zones.specs.Change.{rise_of, fall_of, rates_of, reach, Roof, Steps}
+use Rattle.zones.specs.Change.{rise_of, fall_of, rates_of, step_reach, Roof, StepsFar}
 use Rattle.zones.proofs.Checked.{rates_ok}
 use Rattle.zones.proofs.Closing.{no_levels_cell, no_levels_empty, no_levels_sized, closes_none}
 use Rattle.zones.proofs.Turning.{below_itself}
@@ -80,7 +80,7 @@ grown_holds : (b : Bound) (m r f : ℕ) (d e : ℤ) → Holds b d → m ≡ r + 
 grown_holds b m r f d e h q l = grind (arith, ints)
 
 module _ (n : ℕ) (rs : List Rate) (xs ys zs : List ℤ) (ok : rate_refused n rs ≡ None)
-    (w : Widens n (λ i j. rise_of rs i + fall_of rs j) xs ys) (c : Closes n ys zs) where
+    (w : Widens n (λ i j. rise_of rs i + fall_of rs j) xs ys) (c : ClosesFar n ys zs) where
   at_itself : (i : ℕ) → i ≤ n → zone_of n ys i i ≡ zone_of n xs i i
   at_itself i hi = ap bound_of (w i i hi hi ∙ ap (λ t. cond t (cell n xs i i)
       (total_sum (cell n xs i i) (pos (rise_of rs i + fall_of rs i)))) (eq-eqb i i refl))
@@ -112,16 +112,16 @@ module _ (n : ℕ) (rs : List Rate) (xs ys zs : List ℤ) (ok : rate_refused n r
       (sum_never_sharper (cell n xs i j) (pos (rise_of rs i + fall_of rs j)))) g))
       (cases_eq i j)
 
-  widened_sized : AllSized closed_reach n xs → AllSized limit n ys
+  widened_sized : AllSized closed_reach n xs → AllSized closing_reach n ys
   widened_sized s i j hi hj = ⊎_elim
-      (λ e. subst (λ k. Sized limit (zone_of n ys i k)) e (subst (Sized limit) (sym (at_itself i hi))
-      (sized_more closed_reach limit (zone_of n xs i i) (omega arith) (s i i hi hi))))
+      (λ e. subst (λ k. Sized closing_reach (zone_of n ys i k)) e (subst (Sized closing_reach) (sym (at_itself i hi))
+      (sized_more closed_reach closing_reach (zone_of n xs i i) (omega arith) (s i i hi hi))))
       (λ ne.
       let p = rise_within n rs ok i hi in let q = fall_within n rs ok j hj in
-      subst (Sized limit) (sym (at_other i j hi hj ne ∙ sum_exact closed_reach 20000 (cell n xs i j)
+      subst (Sized closing_reach) (sym (at_other i j hi hj ne ∙ sum_exact closed_reach 20000 (cell n xs i j)
       (pos (rise_of rs i + fall_of rs j)) (omega arith) (s i j hi hj)
       (subst (Sized 20000) (sym (growth_is i j hi hj)) (omega (arith, ints), omega (arith, ints)))))
-      (sized_more (closed_reach + 20000) limit _ (omega arith) (sized_sum closed_reach 20000 (zone_of n xs i j)
+      (sized_more (closed_reach + 20000) closing_reach _ (omega arith) (sized_sum closed_reach 20000 (zone_of n xs i j)
       (bound_of (pos (rise_of rs i + fall_of rs j))) (s i j hi hj)
       (subst (Sized 20000) (sym (growth_is i j hi hj)) (omega (arith, ints), omega (arith, ints))))))
       (cases_eq i j)
@@ -150,7 +150,7 @@ module _ (n : ℕ) (rs : List Rate) (xs ys zs : List ℤ) (ok : rate_refused n r
     as_widened = same_levels n (widen (rates_of rs) (zone_of n xs)) (zone_of n ys) exact_at
 
     -- a step never empties a zone
-    not_empty : ClosedForm n ys zs → ((i j : ℕ) → i ≤ n → j ≤ n → NoLarger (zone_of n zs i j) (zone_of n ys i j))
+    not_empty : FarForm n ys zs → ((i j : ℕ) → i ≤ n → j ≤ n → NoLarger (zone_of n zs i j) (zone_of n ys i j))
         × Canonical n (zone_of n zs)
     not_empty (inl e) =
         let l = stays n (rates_of rs) (zone_of n xs) ca in
@@ -196,18 +196,18 @@ module _ (n : ℕ) (rs : List Rate) (xs ys zs : List ℤ) (ok : rate_refused n r
   lost_none x y p m = (c.levels y).0 record { datum = m.datum; holds = widened_holds x y p m }
 
 -- ---- the step: a closing, bounds that grow, and another closing
-module _ (n : ℕ) (rs : List Rate) (xs ws ys zs : List ℤ) (ok : rate_refused n rs ≡ None) (b : Closes n xs ws)
-    (w : Widens n (λ i j. rise_of rs i + fall_of rs j) ws ys) (c : Closes n ys zs) where
+module _ (n : ℕ) (rs : List Rate) (xs ws ys zs : List ℤ) (ok : rate_refused n rs ≡ None) (b : ClosesFar n xs ws)
+    (w : Widens n (λ i j. rise_of rs i + fall_of rs j) ws ys) (c : ClosesFar n ys zs) where
   -- what the first closing leaves of numbers within reach
-  module _ (s : AllSized reach n xs) where
+  module _ (s : AllSized step_reach n xs) where
     closed_sized : AllSized closed_reach n ws
     closed_sized = b.sized 43 (omega arith) s
 
-    within_limit : AllSized limit n xs
-    within_limit i j hi hj = sized_more reach limit (zone_of n xs i j) (omega arith) (s i j hi hj)
+    within_limit : AllSized closing_reach n xs
+    within_limit i j hi hj = sized_more step_reach closing_reach (zone_of n xs i j) (omega arith) (s i j hi hj)
 
     exact_by :
-        ClosedForm n xs ws →
+        FarForm n xs ws →
         (((zs ≡ no_levels n) × Empty n (zone_of n xs)) ⊎ Canonical n (zone_of n zs))
         × ((y : Levels) → In n (zone_of n zs) y → (x : Levels) × In n (zone_of n xs) x × Moves n (rates_of rs) x y)
     exact_by (inl e) =
@@ -223,13 +223,13 @@ module _ (n : ℕ) (rs : List Rate) (xs ws ys zs : List ℤ) (ok : rate_refused 
 
   -- from a canonical zone
   roof_by :
-      ClosedForm n xs ws →
-      (h : ℕ) → h ≤ reach → Canonical n (zone_of n xs) → Roof h n xs → Canonical n (zone_of n zs) × Roof (h + 10000) n zs
+      FarForm n xs ws →
+      (h : ℕ) → h ≤ step_reach → Canonical n (zone_of n xs) → Roof h n xs → Canonical n (zone_of n zs) × Roof (h + 10000) n zs
   roof_by (inl e) h le ca ro =
       let l = some_levels n (zone_of n xs) ca in
       absurd (no_levels_empty n l.0 (subst (λ vs. In n (zone_of n vs) l.0) e ((b.levels l.0).0 l.1)))
   roof_by (inr (sm, k)) h le ca ro =
-      let s : AllSized reach n xs = λ i j hi hj. sized_more h reach (zone_of n xs i j) le
+      let s : AllSized step_reach n xs = λ i j hi hj. sized_more h step_reach (zone_of n xs i j) le
       (roof_sized h n xs ca ro i j hi hj) in
       let d : Canonical n (zone_of n ws) = k (within_limit s) in
       let r : Roof h n ws = λ i hi. no_larger_trans (zone_of n ws i 0) (zone_of n xs i 0) (at_most (pos h))
@@ -238,12 +238,12 @@ module _ (n : ℕ) (rs : List Rate) (xs ws ys zs : List ℤ) (ok : rate_refused 
         step_roof n rs ws ys zs ok w c d (closed_sized s) h r,
       )
 
-  pub steps : Steps n rs xs zs
+  pub steps : StepsFar n rs xs zs
   steps = record {
     sound = λ x y p m. lost_none n rs ws ys zs ok w c x y ((b.levels x).0 p) m;
     exact = λ s. exact_by s b.form;
     roof = roof_by b.form;
     empty = λ e. none_left n rs ws ys zs ok w c
-        (closes_none n xs ws b (subst (AllSized limit n) (sym e) (no_levels_sized n limit (omega arith)))
+        (closes_none n xs ws b (subst (AllSized closing_reach n) (sym e) (no_levels_sized n closing_reach (omega arith)))
         (λ x p. no_levels_empty n x (subst (λ vs. In n (zone_of n vs) x) e p)));
   }

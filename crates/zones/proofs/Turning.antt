@@ -17,7 +17,7 @@ use Rattle.theory.proofs.Close.{Through, turn_through, sum_holds}
 use Rattle.theory.proofs.Meet.{in_larger}
 use Rattle.bounds.specs.Meaning.{bound_of, number_of, total_sum, Sized}
 use Rattle.bounds.proofs.Laws.{never_sharper, number_exact, sized_sum, sized_more, sharper_means}
-use Rattle.zones.specs.Numbers.{cell, zone_of, ZeroDiagonal, AllSized, limit, Turns}
+use Rattle.zones.specs.Numbers.{cell, zone_of, ZeroDiagonal, AllSized, closing_reach, TurnsFar}
 use Rattle.zones.proofs.Cells.{place, place_within, same_row, same_column, cell_same, cell_other}
 
 -- what an i64 says of a bound
@@ -179,7 +179,7 @@ pub record Begun (n k : ℕ) (xs ys : List ℤ) : Type 0 where
   pub smaller : (i j : ℕ) → i ≤ n → j ≤ n → NoLarger (zone_of n ys i j) (zone_of n xs i j)
   pub itself : ZeroDiagonal n ys
   pub sized : (e : ℕ) → e ≤ 53 → AllSized (2 ^ e) n xs → AllSized (2 ^ (e + k)) n ys
-  pub through : AllSized limit n xs → Through n k (zone_of n ys)
+  pub through : AllSized closing_reach n xs → Through n k (zone_of n ys)
 
 pub begun_none : (n : ℕ) (xs : List ℤ) → ZeroDiagonal n xs → Begun n 0 xs xs
 begun_none n xs z = record {
@@ -242,7 +242,7 @@ module _ (n k : ℕ) (xs ys zs : List ℤ) (b : Begun n k xs ys) (small : n ≤ 
 
   -- a number below itself: there are no levels
   pub begun_empty : (hi i : ℕ) → Turned n k 0 hi (zone_of n ys) (zone_of n zs) → i ≤ n → cell n zs i i <ℤ pos 0 →
-      Turns n xs false zs
+      TurnsFar n xs false zs
   begun_empty hi i t il neg =
       let same : SameLevels n (zone_of n xs) (zone_of n zs) = λ x. let u = b.levels x in
       let v = turned_same n k 0 hi (zone_of n ys) (zone_of n zs) t kl x in (λ p. v.0 (u.0 p), λ p. u.1 (v.1 p)) in
@@ -256,7 +256,7 @@ module _ (n k : ℕ) (xs ys zs : List ℤ) (b : Begun n k xs ys) (small : n ≤ 
             (((same x).0 p).holds i i il il));
       }
 
-pub begun_all : (n : ℕ) (xs ys : List ℤ) → n ≤ 8 → Begun n (n + 1) xs ys → Turns n xs true ys
+pub begun_all : (n : ℕ) (xs ys : List ℤ) → n ≤ 8 → Begun n (n + 1) xs ys → TurnsFar n xs true ys
 begun_all n xs ys small b = record {
   levels = b.levels;
   smaller = b.smaller;

@@ -44,11 +44,10 @@ abbrev pub reading_of : ℕ → Reading → history.Reading
 reading_of a r = record { gauge = a; first = r.first; second = r.second; low = r.low; high = r.high }
 
 -- ---- sizes
--- Steps and readings are exact for zones whose numbers are no farther from 0 than this, but for those that are no bound: a
--- closing makes it 2 ^ 52 at most, which leaves a second one, after bounds have grown by 20,000, below its limit. A million
--- steps of 10,000 from 100,000 come nowhere near.
+-- Steps and readings are exact for zones whose numbers are no farther from 0 than this, but for those that are no bound. A
+-- million steps of 10,000 from 100,000 come nowhere near.
 abbrev pub reach : ℕ
-reach = 2 ^ 43
+reach = 2 ^ 39
 
 -- No level is above h.
 abbrev pub Roof : ℕ → ℕ → List ℤ → Type 0
@@ -62,17 +61,15 @@ pub record Starts (n : ℕ) (rs : List Range) (ys : List ℤ) : Type 0 where
   pub canonical : Canonical n (zone_of n ys)
   pub roof : Roof 100000 n ys
 
--- A step loses no levels that it can lead to. Within reach it leads to just the levels that are left, whatever the bounds
--- were: they are a canonical zone, or the numbers that stand for none, and then there were none. A canonical zone stays one,
--- at most 10,000 higher, and the numbers that stand for no levels stay as they are.
+-- A step loses no levels that it can lead to. From a canonical zone it leads to just the levels that are left, which are
+-- again a canonical zone, and at most 10,000 higher. Where there were no levels there are none.
 pub record Steps (n : ℕ) (rs : List Rate) (xs ys : List ℤ) : Type 0 where
   pub sound : (x y : Levels) → In n (zone_of n xs) x → Moves n (rates_of rs) x y → In n (zone_of n ys) y
   pub exact :
-      AllSized reach n xs →
-      (((ys ≡ no_levels n) × Empty n (zone_of n xs)) ⊎ Canonical n (zone_of n ys))
-      × ((y : Levels) → In n (zone_of n ys) y → (x : Levels) × In n (zone_of n xs) x × Moves n (rates_of rs) x y)
-  pub roof :
-      (h : ℕ) → h ≤ reach → Canonical n (zone_of n xs) → Roof h n xs → Canonical n (zone_of n ys) × Roof (h + 10000) n ys
+      Canonical n (zone_of n xs) → AllSized reach n xs →
+      Canonical n (zone_of n ys) × ((y : Levels) → In n (zone_of n ys) y → (x : Levels) × In n (zone_of n xs) x
+      × Moves n (rates_of rs) x y)
+  pub roof : (h : ℕ) → h ≤ reach → Canonical n (zone_of n xs) → Roof h n xs → Roof (h + 10000) n ys
   pub empty : xs ≡ no_levels n → ys ≡ no_levels n
 
 -- A reading leaves just the levels at which it is right, whatever gauge has read so. They are a canonical zone, no higher
@@ -81,7 +78,36 @@ pub record Reads (n : ℕ) (r : Reading) (xs ys : List ℤ) : Type 0 where
   pub levels :
       (a : ℕ) (x : Levels) → (In n (zone_of n xs) x → Right (reading_of a r) x → In n (zone_of n ys) x)
       × (In n (zone_of n ys) x → In n (zone_of n xs) x × Right (reading_of a r) x)
+  pub form : (ys ≡ no_levels n) ⊎ ((AllSized reach n xs → Canonical n (zone_of n ys)) × ((h : ℕ) → Roof h n xs → Roof h n ys))
+  pub empty : xs ≡ no_levels n → ys ≡ no_levels n
+
+-- ---- the same for larger numbers, and for a step from whatever bounds there are
+-- Steps and readings are exact too for zones whose numbers are no farther from 0 than this, but for those that are no bound: a
+-- closing makes it 2 ^ 52 at most, which leaves a second one, after bounds have grown by 20,000, below its limit. A million
+-- steps of 10,000 from 100,000 come nowhere near.
+abbrev pub step_reach : ℕ
+step_reach = 2 ^ 43
+
+-- A step loses no levels that it can lead to. Within that reach it leads to just the levels that are left, whatever the bounds
+-- were: they are a canonical zone, or the numbers that stand for none, and then there were none. A canonical zone stays one,
+-- at most 10,000 higher, and the numbers that stand for no levels stay as they are.
+pub record StepsFar (n : ℕ) (rs : List Rate) (xs ys : List ℤ) : Type 0 where
+  pub sound : (x y : Levels) → In n (zone_of n xs) x → Moves n (rates_of rs) x y → In n (zone_of n ys) y
+  pub exact :
+      AllSized step_reach n xs →
+      (((ys ≡ no_levels n) × Empty n (zone_of n xs)) ⊎ Canonical n (zone_of n ys))
+      × ((y : Levels) → In n (zone_of n ys) y → (x : Levels) × In n (zone_of n xs) x × Moves n (rates_of rs) x y)
+  pub roof :
+      (h : ℕ) → h ≤ step_reach → Canonical n (zone_of n xs) → Roof h n xs → Canonical n (zone_of n ys) × Roof (h + 10000) n ys
+  pub empty : xs ≡ no_levels n → ys ≡ no_levels n
+
+-- A reading leaves just the levels at which it is right, whatever gauge has read so. They are a canonical zone, no higher
+-- than before, or the numbers that stand for none.
+pub record ReadsFar (n : ℕ) (r : Reading) (xs ys : List ℤ) : Type 0 where
+  pub levels :
+      (a : ℕ) (x : Levels) → (In n (zone_of n xs) x → Right (reading_of a r) x → In n (zone_of n ys) x)
+      × (In n (zone_of n ys) x → In n (zone_of n xs) x × Right (reading_of a r) x)
   pub form :
       (ys ≡ no_levels n)
-      ⊎ ((AllSized reach n xs → Canonical n (zone_of n ys)) × ((h : ℕ) → Roof h n xs → Roof h n ys))
+      ⊎ ((AllSized step_reach n xs → Canonical n (zone_of n ys)) × ((h : ℕ) → Roof h n xs → Roof h n ys))
   pub empty : xs ≡ no_levels n → ys ≡ no_levels n

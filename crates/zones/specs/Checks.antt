@@ -9,13 +9,10 @@ use Rattle.zones.specs.declared.kinds.Range.{Range}
 use Rattle.zones.specs.declared.kinds.Rate.{Rate}
 use Rattle.zones.specs.declared.kinds.Reading.{Reading}
 
--- There are 1 to 8 basins.
-abbrev pub basins_refused : ℕ → Option Refusal
-basins_refused n = when (nat_lt n 1 || nat_lt 8 n) refuses.Basins
-
--- Of how many basins a zone is, and how many numbers it has.
+-- The number of basins, and the numbers of a zone.
 abbrev pub size_refused : ℕ → ℕ → Option Refusal
-size_refused n len = or_else (basins_refused n) (when (not (len == (n + 1) * (n + 1))) (refuses.Length len))
+size_refused n len =
+    or_else (when (nat_lt n 1 || nat_lt 8 n) refuses.Basins) (when (not (len == (n + 1) * (n + 1))) (refuses.Length len))
 
 -- A range for each basin, which does not end before it begins, or above 100,000.
 abbrev pub range_ok : Range → Bool
@@ -23,8 +20,8 @@ range_ok r = nat_le r.least r.most && nat_le r.most 100000
 
 abbrev pub range_refused : ℕ → List Range → Option Refusal
 range_refused n rs =
-    or_else (basins_refused n) (or_else (when (not (length rs == n)) (refuses.Length (length rs)))
-    (option_map (λ i. refuses.Range (i + 1)) (first_bad range_ok 0 rs)))
+    or_else (when (not (length rs == n)) (refuses.Length (length rs)))
+    (option_map (λ i. refuses.Range (i + 1)) (first_bad range_ok 0 rs))
 
 -- Rates for each basin, of which none is above 10,000: the basin is the place, with the number of basins added for a fall.
 abbrev pub rise_ok : Rate → Bool
@@ -35,9 +32,9 @@ fall_ok r = nat_le r.fall 10000
 
 abbrev pub rate_refused : ℕ → List Rate → Option Refusal
 rate_refused n rs =
-    or_else (basins_refused n) (or_else (when (not (length rs == n)) (refuses.Length (length rs)))
+    or_else (when (not (length rs == n)) (refuses.Length (length rs)))
     (or_else (option_map (λ i. refuses.Rate (i + 1)) (first_bad rise_ok 0 rs))
-    (option_map (λ i. refuses.Rate (n + (i + 1))) (first_bad fall_ok 0 rs))))
+    (option_map (λ i. refuses.Rate (n + (i + 1))) (first_bad fall_ok 0 rs)))
 
 -- A reading that is in order, within a million either way, of two different numbers of the zone.
 abbrev pub reading_refused : ℕ → Reading → Option Refusal
@@ -56,3 +53,13 @@ step_refused n len rs = or_else (size_refused n len) (rate_refused n rs)
 
 abbrev pub meet_refused : ℕ → ℕ → Reading → Option Refusal
 meet_refused n len r = or_else (size_refused n len) (reading_refused n r)
+
+-- So many basins, and a range or rates for each of them, where no zone is lent with them.
+abbrev pub basins_refused : ℕ → Option Refusal
+basins_refused n = when (nat_lt n 1 || nat_lt 8 n) refuses.Basins
+
+abbrev pub ranges_refused : ℕ → List Range → Option Refusal
+ranges_refused n rs = or_else (basins_refused n) (range_refused n rs)
+
+abbrev pub rates_refused : ℕ → List Rate → Option Refusal
+rates_refused n rs = or_else (basins_refused n) (rate_refused n rs)

@@ -7,7 +7,6 @@ use Rattle.refusal.specs.declared.kinds.Refusal.TheVariants as refuses
 use Rattle.theory.specs.Bound.{Bound, none, at_most}
 use Rattle.theory.specs.Level.{Levels, Rates, Moves}
 use Rattle.theory.specs.Zone.{Zone, In, Canonical}
-use Rattle.zones.specs.Checks.{size_refused}
 
 -- ---- what the numbers mean
 -- A bound is written as the bound and 1,000,001, and no bound as 0.
@@ -30,9 +29,9 @@ abbrev pub rates_in : List ℕ → List ℕ → Rates
 rates_in rise fall = record { rise = rate_of rise; fall = rate_of fall; datum = (refl, refl) }
 
 -- ---- what is refused
--- Rises, or falls, of another number than the basins need.
+-- Numbers of another length than is needed.
 abbrev pub other_length : ℕ → List ℕ → Option Refusal
-other_length n rates = when (not (length rates == n)) (refuses.Length (length rates))
+other_length size xs = when (not (length xs == size)) (refuses.Length (length xs))
 
 -- The index of the first number above a limit.
 abbrev pub first_above : ℕ → List ℕ → Option ℕ
@@ -42,12 +41,13 @@ first_above most xs = first_bad (λ v. nat_le v most) 0 xs
 -- its basin; a fall above 10,000, by its basin and the number of basins; a number above 2,000,002, by its index.
 abbrev pub refused : ℕ → List ℕ → List ℕ → List ℕ → Option Refusal
 refused n rise fall xs =
-    or_else (size_refused n (length xs))
+    or_else (when (nat_lt n 1 || nat_lt 8 n) refuses.Basins)
+    (or_else (other_length ((n + 1) * (n + 1)) xs)
     (or_else (other_length n rise)
     (or_else (other_length n fall)
     (or_else (option_map (λ i. refuses.Rate (i + 1)) (first_above 10000 rise))
     (or_else (option_map (λ i. refuses.Rate (n + (i + 1))) (first_above 10000 fall))
-    (option_map refuses.ZoneNumber (first_above 2000002 xs))))))
+    (option_map refuses.ZoneNumber (first_above 2000002 xs)))))))
 
 -- No number is above a limit.
 abbrev pub AllWithin : ℕ → List ℕ → Type 0

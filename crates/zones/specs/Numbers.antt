@@ -23,9 +23,9 @@ ZeroDiagonal n xs = (i : ℕ) → i ≤ n → cell n xs i i ≡ pos 0
 abbrev pub AllSized : ℕ → ℕ → List ℤ → Type 0
 AllSized h n xs = (i j : ℕ) → i ≤ n → j ≤ n → Sized h (zone_of n xs i j)
 
--- The size up to which a closing is exact: each of its at most nine turns can double a size, and sums up to 2 ^ 62 are exact.
+-- The size up to which a closing is exact.
 abbrev pub limit : ℕ
-limit = 2 ^ 53
+limit = 2 ^ 40
 
 -- Each number between two different numbers has grown by m; those on themselves are as they were.
 abbrev pub Widens : (n : ℕ) → (ℕ → ℕ → ℕ) → (xs ys : List ℤ) → Type 0
@@ -47,22 +47,16 @@ pub record Turns (n : ℕ) (xs : List ℤ) (r : Bool) (ys : List ℤ) : Type 0 w
   pub levels : SameLevels n (zone_of n xs) (zone_of n ys)
   pub smaller : (i j : ℕ) → i ≤ n → j ≤ n → NoLarger (zone_of n ys i j) (zone_of n xs i j)
   pub closed : r ≡ true → AllSized limit n xs → Closed n (zone_of n ys)
-  pub sized : r ≡ true → (e : ℕ) → e ≤ 53 → AllSized (2 ^ e) n xs → AllSized (2 ^ (e + 9)) n ys
   pub empty : r ≡ false → Empty n (zone_of n xs)
 
--- The numbers ys stand for no levels, or no bound is larger than in xs, and up to the limit the zone is canonical.
-abbrev pub ClosedForm : ℕ → List ℤ → List ℤ → Type 0
-ClosedForm n xs ys =
-    (ys ≡ no_levels n)
-    ⊎ (((i j : ℕ) → i ≤ n → j ≤ n → NoLarger (zone_of n ys i j) (zone_of n xs i j))
-    × (AllSized limit n xs → Canonical n (zone_of n ys)))
-
--- What a closing leaves of the numbers xs: the same levels, in that form. Up to the limit no size grows by more than nine
--- doublings.
+-- What a closing leaves of the numbers xs: the same levels. They are the numbers that stand for none, or no bound is larger
+-- than it was, and up to the limit the zone is canonical.
 pub record Closes (n : ℕ) (xs ys : List ℤ) : Type 0 where
   pub levels : SameLevels n (zone_of n xs) (zone_of n ys)
-  pub form : ClosedForm n xs ys
-  pub sized : (e : ℕ) → e ≤ 53 → AllSized (2 ^ e) n xs → AllSized (2 ^ (e + 9)) n ys
+  pub form :
+      (ys ≡ no_levels n)
+      ⊎ (((i j : ℕ) → i ≤ n → j ≤ n → NoLarger (zone_of n ys i j) (zone_of n xs i j))
+      × (AllSized limit n xs → Canonical n (zone_of n ys)))
 
 -- A test of the datum's own number: where it holds there are no levels, and of a canonical zone it does not hold, so that it
 -- tells whether a zone that is kept has levels.
@@ -71,3 +65,29 @@ pub record TellsEmpty (n : ℕ) (xs : List ℤ) (r : Bool) : Type 0 where
   pub empty : r ≡ true → Empty n (zone_of n xs)
   pub kept : Canonical n (zone_of n xs) → r ≡ false
   pub none : xs ≡ no_levels n → r ≡ true
+
+-- The same for larger numbers: a closing is exact up to this size too, since each of its at most nine turns can double a
+-- size, and sums up to 2 ^ 62 are exact.
+abbrev pub closing_reach : ℕ
+closing_reach = 2 ^ 53
+
+pub record TurnsFar (n : ℕ) (xs : List ℤ) (r : Bool) (ys : List ℤ) : Type 0 where
+  pub levels : SameLevels n (zone_of n xs) (zone_of n ys)
+  pub smaller : (i j : ℕ) → i ≤ n → j ≤ n → NoLarger (zone_of n ys i j) (zone_of n xs i j)
+  pub closed : r ≡ true → AllSized closing_reach n xs → Closed n (zone_of n ys)
+  pub sized : r ≡ true → (e : ℕ) → e ≤ 53 → AllSized (2 ^ e) n xs → AllSized (2 ^ (e + 9)) n ys
+  pub empty : r ≡ false → Empty n (zone_of n xs)
+
+-- The numbers ys stand for no levels, or no bound is larger than in xs, and up to that size the zone is canonical.
+abbrev pub FarForm : ℕ → List ℤ → List ℤ → Type 0
+FarForm n xs ys =
+    (ys ≡ no_levels n)
+    ⊎ (((i j : ℕ) → i ≤ n → j ≤ n → NoLarger (zone_of n ys i j) (zone_of n xs i j))
+    × (AllSized closing_reach n xs → Canonical n (zone_of n ys)))
+
+-- What a closing leaves of the numbers xs: the same levels, in that form. Up to that size no size grows by more than nine
+-- doublings.
+pub record ClosesFar (n : ℕ) (xs ys : List ℤ) : Type 0 where
+  pub levels : SameLevels n (zone_of n xs) (zone_of n ys)
+  pub form : FarForm n xs ys
+  pub sized : (e : ℕ) → e ≤ 53 → AllSized (2 ^ e) n xs → AllSized (2 ^ (e + 9)) n ys

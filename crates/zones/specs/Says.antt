@@ -7,8 +7,8 @@ use Rattle.zones.specs.declared.kinds.Range.{Range}
 use Rattle.zones.specs.declared.kinds.Rate.{Rate}
 use Rattle.zones.specs.declared.kinds.Reading.{Reading}
 use Rattle.zones.specs.Checks.{size_refused, first_refused, step_refused, meet_refused}
-use Rattle.zones.specs.Numbers.{Closes, TellsEmpty}
-use Rattle.zones.specs.Change.{Starts, Steps, Reads}
+use Rattle.zones.specs.Numbers.{Closes, ClosesFar, TellsEmpty}
+use Rattle.zones.specs.Change.{Starts, Steps, StepsFar, Reads, ReadsFar}
 
 -- Numbers xs before and ys after, with the answer r between them.
 abbrev pub CloseSays : ℕ → List ℤ → Result Unit Refusal → List ℤ → Type 0
@@ -25,3 +25,13 @@ StepSays n rs xs r ys = Answers r (step_refused n (length xs) rs) (λ _. Steps n
 
 abbrev pub MeetSays : ℕ → Reading → List ℤ → Result Unit Refusal → List ℤ → Type 0
 MeetSays n reading xs r ys = Answers r (meet_refused n (length xs) reading) (λ _. Reads n reading xs ys) (ys ≡ xs)
+
+-- The same for larger numbers, and for a step from whatever bounds there are.
+abbrev pub CloseSaysFar : ℕ → List ℤ → Result Unit Refusal → List ℤ → Type 0
+CloseSaysFar n xs r ys = Answers r (size_refused n (length xs)) (λ _. ClosesFar n xs ys) (ys ≡ xs)
+
+abbrev pub StepSaysFar : ℕ → List Rate → List ℤ → Result Unit Refusal → List ℤ → Type 0
+StepSaysFar n rs xs r ys = Answers r (step_refused n (length xs) rs) (λ _. StepsFar n rs xs ys) (ys ≡ xs)
+
+abbrev pub MeetSaysFar : ℕ → Reading → List ℤ → Result Unit Refusal → List ℤ → Type 0
+MeetSaysFar n reading xs r ys = Answers r (meet_refused n (length xs) reading) (λ _. ReadsFar n reading xs ys) (ys ≡ xs)

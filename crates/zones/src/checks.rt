@@ -1,8 +1,8 @@
 // The checks that come before a zone is touched, in the order of their numbers.
-ghost use Rattle.std.specs.Prelude.{◌≡◌, ◌<◌, length, MatchOption};
+ghost use Rattle.std.specs.Prelude.{◌≡◌, ◌<◌, ◌≤◌, length, None, Some, MatchOption, MatchResult};
 ghost use Rattle.refusal.specs.Order.{Found, first_bad};
 ghost use Rattle.zones.specs.Checks.{basins_refused, fall_ok, range_ok, range_refused, rate_refused, rise_ok};
-ghost use Rattle.zones.specs.Checks.{reading_refused, size_refused};
+ghost use Rattle.zones.specs.Checks.{ranges_refused, rates_refused, reading_refused, size_refused};
 
 use crate::kinds::{Range, Rate, Reading};
 use refusal::Refusal;
@@ -30,7 +30,7 @@ pub fn check_basins(basins: usize) -> Result<(), Refusal>
 
 // A zone of `basins` basins has `length` numbers.
 pub(crate) fn check_size(basins: usize, length: usize) -> Result<(), Refusal>
-    ensures { Found result (size_refused basins length) }
+    ensures { MatchResult result (λ _. size_refused basins length ≡ None) (λ e. size_refused basins length ≡ Some e) }
 {
     check_basins(basins)?;
     if length != (basins + 1) * (basins + 1) {
@@ -79,10 +79,11 @@ fn bad_fall(rates: &[Rate]) -> Option<usize>
 }
 
 // There is a range for each basin, and each is in order.
-pub fn check_ranges(basins: usize, ranges: &[Range]) -> Result<(), Refusal>
-    ensures { Found result (range_refused basins ranges.now) }
+pub(crate) fn check_ranges(basins: usize, ranges: &[Range]) -> Result<(), Refusal>
+    requires { basins ≤ 8 }
+    ensures { MatchResult result (λ _. range_refused basins ranges.now ≡ None)
+        (λ e. range_refused basins ranges.now ≡ Some e) }
 {
-    check_basins(basins)?;
     if ranges.len() != basins {
         return Err(Refusal::Length(ranges.len() as u64));
     }
@@ -93,10 +94,11 @@ pub fn check_ranges(basins: usize, ranges: &[Range]) -> Result<(), Refusal>
 }
 
 // There are rates for each basin, and none is too large.
-pub fn check_rates(basins: usize, rates: &[Rate]) -> Result<(), Refusal>
-    ensures { Found result (rate_refused basins rates.now) }
+pub(crate) fn check_rates(basins: usize, rates: &[Rate]) -> Result<(), Refusal>
+    requires { basins ≤ 8 }
+    ensures { MatchResult result (λ _. rate_refused basins rates.now ≡ None)
+        (λ e. rate_refused basins rates.now ≡ Some e) }
 {
-    check_basins(basins)?;
     if rates.len() != basins {
         return Err(Refusal::Length(rates.len() as u64));
     }
@@ -111,7 +113,7 @@ pub fn check_rates(basins: usize, rates: &[Rate]) -> Result<(), Refusal>
 
 // A reading is in order, within its limits, and of two different numbers of the zone.
 pub(crate) fn check_reading(basins: usize, reading: Reading) -> Result<(), Refusal>
-    ensures { Found result (reading_refused basins reading) }
+    ensures { MatchResult result (λ _. reading_refused basins reading ≡ None) (λ e. reading_refused basins reading ≡ Some e) }
 {
     if reading.low > reading.high {
         return Err(Refusal::LowAboveHigh);
@@ -126,4 +128,19 @@ pub(crate) fn check_reading(basins: usize, reading: Reading) -> Result<(), Refus
         return Err(Refusal::SameBasin);
     }
     Ok(())
+}
+
+// The same where no zone is lent with them: the number of basins is checked too.
+pub fn check_basin_ranges(basins: usize, ranges: &[Range]) -> Result<(), Refusal>
+    ensures { Found result (ranges_refused basins ranges.now) }
+{
+    check_basins(basins)?;
+    check_ranges(basins, ranges)
+}
+
+pub fn check_basin_rates(basins: usize, rates: &[Rate]) -> Result<(), Refusal>
+    ensures { Found result (rates_refused basins rates.now) }
+{
+    check_basins(basins)?;
+    check_rates(basins, rates)
 }

@@ -14,7 +14,7 @@ mod steps;
 mod turns;
 mod whole;
 
-pub use checks::{check_basins, check_ranges, check_rates};
+pub use checks::{check_basin_ranges, check_basin_rates, check_basins};
 pub use first::set_first;
 pub use kinds::{Range, Rate, Reading};
 pub use lent::widen_zone;

@@ -1,10 +1,10 @@
 // A reading takes away the levels at which it would be wrong.
 ghost use Rattle.std.specs.Prelude.{◌≡◌, ◌+◌, ◌*◌, ◌≤◌, length, pos, neg_ℤ, ◌≤ℤ◌, None, slice_set};
 ghost use Rattle.std.specs.Int.{int_min};
-ghost use Rattle.zones.specs.Change.{Reads};
+ghost use Rattle.zones.specs.Change.{Reads, ReadsFar};
 ghost use Rattle.zones.specs.Checks.{reading_refused};
 ghost use Rattle.zones.specs.Numbers.{cell};
-ghost use Rattle.zones.specs.Says.{MeetSays};
+ghost use Rattle.zones.specs.Says.{MeetSays, MeetSaysFar};
 
 use crate::checks::{check_reading, check_size};
 use crate::kinds::Reading;
@@ -35,7 +35,8 @@ fn opposite(low: i64) -> i64
 fn meet_square(basins: usize, reading: Reading, zone: &mut [i64])
     requires size { (basins ≤ 8) × (length zone.old ≡ (basins + 1) * (basins + 1)) }
     requires checked { reading_refused basins reading ≡ None }
-    ensures { Reads basins reading zone.old zone.new }
+    ensures read { Reads basins reading zone.old zone.new }
+    ensures far { ReadsFar basins reading zone.old zone.new }
 {
     let first = usize::from(reading.first);
     let second = usize::from(reading.second);
@@ -46,7 +47,8 @@ fn meet_square(basins: usize, reading: Reading, zone: &mut [i64])
 
 // Leaves the levels of a zone at which a reading is right.
 pub fn meet(basins: usize, reading: Reading, zone: &mut [i64]) -> Result<(), Refusal>
-    ensures { MeetSays basins reading zone.old result zone.new }
+    ensures said { MeetSays basins reading zone.old result zone.new }
+    ensures far { MeetSaysFar basins reading zone.old result zone.new }
 {
     check_size(basins, zone.len())?;
     check_reading(basins, reading)?;

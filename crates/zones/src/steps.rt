@@ -1,10 +1,10 @@
 // A step in time: each level may have risen and fallen by its rates.
 ghost use Rattle.std.specs.Prelude.{◌≡◌, ◌+◌, ◌*◌, ◌<◌, ◌≤◌, length, pos, None, slice_index_or, slice_set};
 ghost use Rattle.bounds.specs.Meaning.{total_sum};
-ghost use Rattle.zones.specs.Change.{fall_of, rise_of, Steps};
+ghost use Rattle.zones.specs.Change.{fall_of, rise_of, StepsFar};
 ghost use Rattle.zones.specs.Checks.{rate_refused};
 ghost use Rattle.zones.specs.Numbers.{Widens};
-ghost use Rattle.zones.specs.Says.{StepSays};
+ghost use Rattle.zones.specs.Says.{StepSays, StepSaysFar};
 
 use crate::checks::{check_rates, check_size};
 use crate::kinds::Rate;
@@ -68,7 +68,7 @@ fn widen(basins: usize, rates: &[Rate], zone: &mut [i64])
 fn step_square(basins: usize, rates: &[Rate], zone: &mut [i64])
     requires size { (basins ≤ 8) × (length zone.old ≡ (basins + 1) * (basins + 1)) }
     requires checked { rate_refused basins rates.now ≡ None }
-    ensures { Steps basins rates.now zone.old zone.new }
+    ensures { StepsFar basins rates.now zone.old zone.new }
 {
     close_square(basins, zone);
     widen(basins, rates, zone);
@@ -77,7 +77,8 @@ fn step_square(basins: usize, rates: &[Rate], zone: &mut [i64])
 
 // Leaves the levels to which a step can lead from those of a zone.
 pub fn step(basins: usize, rates: &[Rate], zone: &mut [i64]) -> Result<(), Refusal>
-    ensures { StepSays basins rates.now zone.old result zone.new }
+    ensures said { StepSays basins rates.now zone.old result zone.new }
+    ensures far { StepSaysFar basins rates.now zone.old result zone.new }
 {
     check_size(basins, zone.len())?;
     check_rates(basins, rates)?;

@@ -1,6 +1,6 @@
 // The closing of a zone: the same levels, in the one form in which zones are kept.
 ghost use Rattle.std.specs.Prelude.{◌≡◌, ◌+◌, ◌*◌, ◌≤◌, length};
-ghost use Rattle.zones.specs.Numbers.{Closes, Settles, Turns, ZeroDiagonal};
+ghost use Rattle.zones.specs.Numbers.{Closes, ClosesFar, Settles, Turns, TurnsFar, ZeroDiagonal};
 
 // Every number of a zone without levels: each number is below itself.
 const BELOW_ITSELF: i64 = -1;
@@ -28,7 +28,8 @@ fn settle(basins: usize, zone: &mut [i64]) -> bool
 fn turn_all(basins: usize, zone: &mut [i64]) -> bool
     requires size { (basins ≤ 8) × (length zone.old ≡ (basins + 1) * (basins + 1)) }
     requires itself { ZeroDiagonal basins zone.old }
-    ensures { Turns basins zone.old result zone.new }
+    ensures turned { Turns basins zone.old result zone.new }
+    ensures far { TurnsFar basins zone.old result zone.new }
 {
     let width = basins + 1;
     let mut levels = true;
@@ -56,7 +57,8 @@ fn turn_all(basins: usize, zone: &mut [i64]) -> bool
 // Closes a zone of the size that the basins need.
 pub(crate) fn close_square(basins: usize, zone: &mut [i64])
     requires { (basins ≤ 8) × (length zone.old ≡ (basins + 1) * (basins + 1)) }
-    ensures { Closes basins zone.old zone.new }
+    ensures closed { Closes basins zone.old zone.new }
+    ensures far { ClosesFar basins zone.old zone.new }
 {
     if !settle(basins, zone) || !turn_all(basins, zone) {
         zone.fill(BELOW_ITSELF);

@@ -1,6 +1,6 @@
 // A zone by itself: its closing, and whether it has levels.
 ghost use Rattle.zones.specs.Run.{SizesHold};
-ghost use Rattle.zones.specs.Says.{CloseSays, EmptySays};
+ghost use Rattle.zones.specs.Says.{CloseSays, CloseSaysFar, EmptySays};
 
 use crate::checks::check_size;
 use crate::turns::close_square;
@@ -8,7 +8,8 @@ use refusal::Refusal;
 
 // Brings a zone into the one form in which zones are kept, with the same levels.
 pub fn close(basins: usize, zone: &mut [i64]) -> Result<(), Refusal>
-    ensures { CloseSays basins zone.old result zone.new }
+    ensures said { CloseSays basins zone.old result zone.new }
+    ensures far { CloseSaysFar basins zone.old result zone.new }
 {
     check_size(basins, zone.len())?;
     close_square(basins, zone);

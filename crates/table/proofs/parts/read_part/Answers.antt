@@ -14,6 +14,6 @@ returns c =
     let long = c.meet.auto.zone ∙ part_length n k xs c.requires.there in
     record {
       zone = subst (MeetSays n c.args.reading (part n k xs) c.meet.result)
-          (sym (part_put n k xs c.requires.there zs long)) c.meet.ensures;
+          (sym (part_put n k xs c.requires.there zs long)) c.meet.ensures.said;
       only = only_put n k xs c.requires.there zs long;
     }

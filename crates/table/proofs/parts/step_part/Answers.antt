@@ -14,6 +14,6 @@ returns c =
     let long = c.step.auto.zone ∙ part_length n k xs c.requires.there in
     record {
       zone = subst (StepSays n c.args.rates.now (part n k xs) c.step.result)
-          (sym (part_put n k xs c.requires.there zs long)) c.step.ensures;
+          (sym (part_put n k xs c.requires.there zs long)) c.step.ensures.said;
       only = only_put n k xs c.requires.there zs long;
     }

@@ -10,9 +10,7 @@ meet_square-requires c =
     record { size = (ok.1, ok.2); checked = c.in_ok-check_reading.ensures }
 
 pub returns : goal.returns
-returns c = (
-  neither (size_refused c.args.basins (length c.args.zone.now))
-      (reading_refused c.args.basins c.args.reading) c.in_ok-check_size.ensures
-      c.in_ok-check_reading.ensures,
-  c.meet_square.ensures,
-)
+returns c =
+    let taken = neither (size_refused c.args.basins (length c.args.zone.now))
+    (reading_refused c.args.basins c.args.reading) c.in_ok-check_size.ensures c.in_ok-check_reading.ensures in
+    record { said = (taken, c.meet_square.ensures.read); far = (taken, c.meet_square.ensures.far) }

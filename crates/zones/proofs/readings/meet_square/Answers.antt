@@ -5,6 +5,7 @@ use Rattle.zones.specs.Numbers.{cell}
 use Rattle.zones.proofs.Cells.{place}
 use Rattle.zones.proofs.Checked.{reading_ok}
 use Rattle.zones.proofs.Meeting.{reads}
+use Rattle.zones.proofs.Near.{reads_near}
 use Rattle.zones.proofs.Writing.{Met, met}
 use Rattle.zones.proofs.readings.meet_square.Goals as goal
 
@@ -38,4 +39,5 @@ returns c =
     let down : Met n r.second r.first (neg_ℤ r.low) ys zs =
     subst (Met n r.second r.first (neg_ℤ r.low) ys) (sym f)
     (met n ys r.second r.first (neg_ℤ r.low) ok.1 ok.0 long (let q = ok.3 in omega (arith, ints))) in
-    reads n r xs ys zs c.close_square.new.zone ok.3 ok.2 ok.4 up down c.close_square.ensures
+    let far = reads n r xs ys zs c.close_square.new.zone ok.3 ok.2 ok.4 up down c.close_square.ensures.far in
+    record { read = reads_near n r xs c.close_square.new.zone far; far = far }

@@ -7,6 +7,7 @@ use Rattle.zones.specs.Numbers.{cell, zone_of}
 use Rattle.zones.proofs.Cells.{place, place_within, cell_same}
 use Rattle.zones.proofs.Turning.{Turned, Begun, begun_none, begun_more, begun_empty, begun_all, turned_none, turned_more}
 use Rattle.zones.proofs.Turning.{row_write, row_skip, row_done, diagonal_write, zero_is}
+use Rattle.zones.proofs.Near.{turns_near}
 use Rattle.zones.proofs.turns.turn_all.Goals as goal
 use Rattle.zones.proofs.turns.turn_all.Goals.{After-is_sharper, then-is_sharper+else-i-j, else-is_sharper}
 
@@ -114,8 +115,9 @@ pub returns-after-turns : goal.returns-after-turns
 returns-after-turns c =
     let n = c.args.basins in
     let e : c.turns.k ≡ n + 1 = omega arith in
-    rw c.turns.invariant.1 (begun_all n c.args.zone.now c.turns.zone c.requires.size.0
-    (subst (λ k. Begun n k c.args.zone.now c.turns.zone) e c.turns.invariant.0))
+    let far = begun_all n c.args.zone.now c.turns.zone c.requires.size.0
+    (subst (λ k. Begun n k c.args.zone.now c.turns.zone) e c.turns.invariant.0) in
+    rw c.turns.invariant.1 record { turned = turns_near n c.args.zone.now true c.turns.zone far; far = far }
 
 pub returns-then-i-j : goal.returns-then-i-j
 returns-then-i-j c =
@@ -132,5 +134,6 @@ returns-then-i-j c =
     (cell_same n ys i j v (omega arith) (omega arith) long) in
     let less : lt_z v (cell n ys i j) ≡ true = sym (test_is a) ∙ c.if-is_sharper.true in
     let own : cell n ys i j ≡ pos 0 = subst (λ m. cell n ys i m ≡ pos 0) same (c.loop-j.invariant.1 i (omega arith)) in
-    begun_empty n k c.args.zone.now c.turns.zone _ c.turns.invariant.0 c.requires.size.0 (omega arith)
-    (place n i (j + 1)) i t (omega arith) (omega (arith, ints))
+    let far = begun_empty n k c.args.zone.now c.turns.zone _ c.turns.invariant.0 c.requires.size.0 (omega arith)
+    (place n i (j + 1)) i t (omega arith) (omega (arith, ints)) in
+    record { turned = turns_near n c.args.zone.now false _ far; far = far }

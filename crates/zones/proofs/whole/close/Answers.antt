@@ -7,4 +7,7 @@ close_square-requires c =
     let ok = size_ok c.args.basins (length c.args.zone.now) c.in_ok-check_size.ensures in (ok.1, ok.2)
 
 pub returns : goal.returns
-returns c = (c.in_ok-check_size.ensures, c.close_square.ensures)
+returns c = record {
+  said = (c.in_ok-check_size.ensures, c.close_square.ensures.closed);
+  far = (c.in_ok-check_size.ensures, c.close_square.ensures.far);
+}

@@ -40,7 +40,7 @@ returns c =
         steps = refl;
         tracks = record {
           counted = refl;
-          listed = c.in_ok-sets.ensures.listed.1;
+          listed = c.in_ok-sets.ensures.1;
           follows = λ k h. follows_start n rs _ _ (started k h);
         };
       },
