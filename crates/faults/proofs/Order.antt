@@ -2,7 +2,7 @@
 -- Assumes nothing.
 use Rattle.std.proofs.Common.{◌≡◌, ℕ, zero, suc, ◌+◌, ◌^◌, ◌<◌, ◌≤◌, Bool, true, false, cond, eqb, ◌⊎◌, List, [], ◌∷◌, ◌++◌, map, length, get_or, filter, sym, refl, ap, ◌∙◌, subst, inl, inr, add-one, arith}
 use lib.Count.{ones}
-use Rattle.std.specs.List.{range_with_len, HoldsAt, ContainsAt as Has, AllByRecursion as All}
+use Rattle.std.specs.List.{range_with_len, HoldsAt, ContainsAt as Has, AllByRecursion}
 use Rattle.std.proofs.lemmas.List.FromFn.{filter_of_map_range_with_len_more}
 use Rattle.std.proofs.ByRecursion.{All-append, All-get_or, all-has, All-from_get_or, All-weaker, has_append_left, has_append_right}
 use Rattle.std.proofs.lemmas.Bool.{cases_eq, cases_order, eq-eqb, eqb-true, true≢false}
@@ -18,19 +18,19 @@ not_both : (s t : FaultSet) → Before s t → Before t s → ⊥
 not_both s t h k = grind arith
 
 -- A list with a set before all others; its parts.
-asc_cons : (x : FaultSet) (xs : List FaultSet) → All (Before x) xs → Ascending xs → Ascending (x ∷ xs)
+asc_cons : (x : FaultSet) (xs : List FaultSet) → AllByRecursion (Before x) xs → Ascending xs → Ascending (x ∷ xs)
 asc_cons x xs h a i zero d l m = absurd (omega arith)
 asc_cons x xs h a zero (suc j) d l m = All-get_or (Before x) xs j d (omega arith) h
 asc_cons x xs h a (suc i) (suc j) d l m = a i j d (omega arith) (omega arith)
 
-asc_first : (x : FaultSet) (xs : List FaultSet) → Ascending (x ∷ xs) → All (Before x) xs
+asc_first : (x : FaultSet) (xs : List FaultSet) → Ascending (x ∷ xs) → AllByRecursion (Before x) xs
 asc_first x xs a = All-from_get_or (Before x) xs x (λ j l. a 0 (suc j) x (omega arith) (omega arith))
 
 asc_rest : (x : FaultSet) (xs : List FaultSet) → Ascending (x ∷ xs) → Ascending xs
 asc_rest x xs a i j d l m = a (suc i) (suc j) d (omega arith) (omega arith)
 
 asc_append :
-    (xs ys : List FaultSet) → Ascending xs → Ascending ys → All (λ x. All (Before x) ys) xs → Ascending (xs ++ ys)
+    (xs ys : List FaultSet) → Ascending xs → Ascending ys → AllByRecursion (λ x. AllByRecursion (Before x) ys) xs → Ascending (xs ++ ys)
 asc_append [] ys a b h = b
 asc_append (x ∷ xs) ys a b h =
     asc_cons x (xs ++ ys) (All-append (Before x) xs ys (asc_first x xs a) h.0)
@@ -62,13 +62,13 @@ of_size_more k n = filter_of_map_range_with_len_more (λ s. eqb (size s) k) numb
 
 all_one :
     (P : FaultSet → Type 0) (x : FaultSet) (xs : List FaultSet) (b : Bool) →
-    (b ≡ true → P x) → All P xs → All P (cond b (x ∷ xs) xs)
+    (b ≡ true → P x) → AllByRecursion P xs → AllByRecursion P (cond b (x ∷ xs) xs)
 all_one P x xs true h r = (h refl, r)
 all_one P x xs false h r = r
 
 asc_one :
     (x : FaultSet) (xs : List FaultSet) (b : Bool) →
-    (b ≡ true → All (Before x) xs) → Ascending xs → Ascending (cond b (x ∷ xs) xs)
+    (b ≡ true → AllByRecursion (Before x) xs) → Ascending xs → Ascending (cond b (x ∷ xs) xs)
 asc_one x xs true h r = asc_cons x xs (h refl) r
 asc_one x xs false h r = r
 
@@ -80,7 +80,7 @@ has_first : (b : Bool) (x : FaultSet) (xs : List FaultSet) → b ≡ true → Ha
 has_first true x xs e = (0, omega arith, λ d. refl)
 has_first false x xs e = absurd (true≢false (sym e))
 
-from_sound : (k a n : ℕ) → All (Between k a n) (from k a n)
+from_sound : (k a n : ℕ) → AllByRecursion (Between k a n) (from k a n)
 from_sound k a zero = tt
 from_sound k a (suc n) =
     let rest : List FaultSet = from k (a + 1) n in
@@ -102,7 +102,7 @@ from_ordered : (k a n : ℕ) → Ascending (from k a n)
 from_ordered k a zero = λ i j d l m. absurd (omega arith)
 from_ordered k a (suc n) =
     let rest : List FaultSet = from k (a + 1) n in
-    let later : All (Between k (a + 1) n) rest = from_sound k (a + 1) n in
+    let later : AllByRecursion (Between k (a + 1) n) rest = from_sound k (a + 1) n in
     asc_one (numbered a) rest (eqb (ones a) k)
     (λ e.
     All-weaker (Between k (a + 1) n) (Before (numbered a)) (λ s h. inr (eqb-true (ones a) k e ∙ sym h.2, omega arith)) rest
@@ -122,7 +122,7 @@ listing_more k g = ap (λ j. listing j g) (add-one k)
 abbrev Fewer : (k g : ℕ) → FaultSet → Type 0
 Fewer k g s = (s.bits < 2 ^ g) × (size s < k)
 
-sound : (k g : ℕ) → All (Fewer k g) (listing k g)
+sound : (k g : ℕ) → AllByRecursion (Fewer k g) (listing k g)
 unfolding listing
 sound zero g = tt
 sound (suc k) g =
@@ -145,9 +145,9 @@ ordered : (k g : ℕ) → Ascending (listing k g)
 unfolding listing
 ordered zero g = λ i j d l m. absurd (omega arith)
 ordered (suc k) g =
-    let all_of_size : All (Between k 0 (2 ^ g)) (of_size k (2 ^ g)) = from_sound k 0 (2 ^ g) in
+    let all_of_size : AllByRecursion (Between k 0 (2 ^ g)) (of_size k (2 ^ g)) = from_sound k 0 (2 ^ g) in
     asc_append (listing k g) (of_size k (2 ^ g)) (ordered k g) (from_ordered k 0 (2 ^ g))
-    (All-weaker (Fewer k g) (λ x. All (Before x) (of_size k (2 ^ g)))
+    (All-weaker (Fewer k g) (λ x. AllByRecursion (Before x) (of_size k (2 ^ g)))
     (λ x h. All-weaker (Between k 0 (2 ^ g)) (Before x) (λ y l. inl (omega arith)) (of_size k (2 ^ g)) all_of_size)
     (listing k g) (sound k g))
 

@@ -1,7 +1,7 @@
 -- The listed sets and the sets of the theory. Assumes nothing.
 use Rattle.std.proofs.Common.{◌≡◌, ℕ, ◌^◌, ◌<◌, List, get_or, sym, ap, ◌∙◌, subst, inl, inr, mod-eq_of_lt, arith}
 use lib.Count.{ones}
-use Rattle.std.specs.List.{ContainsAt as Has, AllByRecursion as All}
+use Rattle.std.specs.List.{ContainsAt as Has, AllByRecursion}
 use Rattle.std.proofs.ByRecursion.{All-get_or, all-has, All-weaker}
 use Rattle.std.proofs.lemmas.Bool.{cases_lt}
 use Rattle.theory.specs.History as history
@@ -80,7 +80,7 @@ represents f g xs h = record {
 -- gauges below g.
 pub of_listed_sets :
     (P : history.FaultSet → Type 0) → ((w v : history.FaultSet) → Agree w v → P w → P v) →
-    (f g : ℕ) (xs : List FaultSet) → Lists f g xs → All (λ s. P (gauge_set s)) xs →
+    (f g : ℕ) (xs : List FaultSet) → Lists f g xs → AllByRecursion (λ s. P (gauge_set s)) xs →
     (v : history.FaultSet) → AtMost f g v → P v
 of_listed_sets P same f g xs h all v m =
     same (gauge_set (set_of g v)) v (set_agrees f g v m)

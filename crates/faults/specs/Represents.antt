@@ -1,6 +1,6 @@
 -- What the listed sets are to the sets of the theory. Assumes nothing: these are definitions.
 use Rattle.std.specs.Prelude.{◌≡◌, ℕ, ◌<◌, List, length}
-use Rattle.std.specs.List.{HoldsAt, AllByRecursion as All}
+use Rattle.std.specs.List.{HoldsAt, AllByRecursion}
 use Rattle.theory.specs.Level.{Levels, Ranges}
 use Rattle.theory.specs.History as history
 use Rattle.theory.specs.History.{Event, AtMost, History}
@@ -32,5 +32,5 @@ pub record Represented (g : ℕ) (xs : List FaultSet) (v : history.FaultSet) : T
 
 -- The list has just the sets of the theory with at most f gauges, all of them below g, each at one place.
 pub record Represents (f g : ℕ) (xs : List FaultSet) : Type 0 where
-  pub few : All (λ s. AtMost f g (gauge_set s)) xs
+  pub few : AllByRecursion (λ s. AtMost f g (gauge_set s)) xs
   pub all : (v : history.FaultSet) → AtMost f g v → Represented g xs v

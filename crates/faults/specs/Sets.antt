@@ -1,6 +1,6 @@
 -- Fault sets as numbers, and the order in which they are listed. Assumes nothing: these are definitions.
 use Rattle.std.specs.Prelude.{◌≡◌, ℕ, ◌/◌, ◌%◌, ◌^◌, ◌<◌, ◌≤◌, true, ◌⊎◌, List, map, length, Decides, filter, ◌==◌, count_ones, nat_eq, slice_index_or}
-use Rattle.std.specs.List.{range_with_len, ContainsAt as Has, AllByRecursion as All}
+use Rattle.std.specs.List.{range_with_len, ContainsAt as Has, AllByRecursion}
 use Rattle.theory.specs.History as history
 use Rattle.faults.specs.declared.set.FaultSet.{FaultSet}
 
@@ -30,7 +30,7 @@ Few f g s = (s.bits < 2 ^ g) × (size s ≤ f)
 
 -- Just the sets of at most f gauges below g, each once, in order.
 pub record Lists (f g : ℕ) (xs : List FaultSet) : Type 0 where
-  pub sound : All (Few f g) xs
+  pub sound : AllByRecursion (Few f g) xs
   pub complete : (s : FaultSet) → Few f g s → Has xs s
   pub ordered : Ascending xs
 
@@ -51,4 +51,4 @@ of_size k n = filter (λ s. nat_eq (size s) k) (map numbered (range_with_len 0 n
 
 -- In r are just the gauges below g, of the 16 that there can be, that are in all of the sets.
 abbrev pub Common : ℕ → List FaultSet → FaultSet → Type 0
-Common g xs r = (a : ℕ) → Decides (gauge_set r a) ((a < g) × (a < 16) × All (λ s. gauge_set s a ≡ true) xs)
+Common g xs r = (a : ℕ) → Decides (gauge_set r a) ((a < g) × (a < 16) × AllByRecursion (λ s. gauge_set s a ≡ true) xs)

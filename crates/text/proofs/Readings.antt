@@ -1,7 +1,7 @@
 -- A line spells at most one entry, and what is written spells what was to be written. Assumes nothing.
 use Rattle.std.proofs.Common.{◌≡◌, ℕ, suc, ◌^◌, ◌<◌, ◌≤◌, Bool, true, false, cond, eqb, ltb, List, [], ◌∷◌, map, length, ℤ, pos, negsuc, neg_ℤ, Some, None, Ok, Err, codes, decimal, Option, Result, sym, refl, ap, ◌∙◌, subst, inl, inr, arith, lit<}
 use Rattle.std.specs.Fmt.{signed_decimal}
-use Rattle.std.specs.List.{AllByRecursion as All}
+use Rattle.std.specs.List.{AllByRecursion}
 use Rattle.std.specs.Str.{all_ascii_digits, bytes_eq}
 use Rattle.std.proofs.lemmas.Fmt.{digits_decimal, digits_value-decimal, decimal_nonempty}
 use Rattle.std.proofs.ByRecursion.{All-append, All-get_or, All-weaker}
@@ -130,14 +130,14 @@ numeral_digits : (ds : List ℕ) → all_ascii_digits ds ≡ true → 0 < length
 numeral_digits [] h l = absurd (omega arith)
 numeral_digits (c ∷ cs) h l = let k : eqb c 45 ≡ false = grind (arith, nat_tests, h) in (rw k h, rw k refl)
 
-digit_marks : (ds : List ℕ) → all_ascii_digits ds ≡ true → All Mark ds
+digit_marks : (ds : List ℕ) → all_ascii_digits ds ≡ true → AllByRecursion Mark ds
 digit_marks [] h = tt
 digit_marks (c ∷ cs) h = ((grind (arith, nat_tests, h), grind (arith, nat_tests, h)), digit_marks cs (grind (arith, nat_tests, h)))
 
-decimal_marks : (n : ℕ) → n < 2 ^ 64 → All Mark (decimal n)
+decimal_marks : (n : ℕ) → n < 2 ^ 64 → AllByRecursion Mark (decimal n)
 decimal_marks n h = digit_marks (decimal n) (digits_decimal own n h)
 
-signed_marks : (z : ℤ) → Fits z → All Mark (signed_decimal z)
+signed_marks : (z : ℤ) → Fits z → AllByRecursion Mark (signed_decimal z)
 signed_marks (pos n) h = decimal_marks n (omega arith)
 signed_marks (negsuc n) h = ((refl, omega arith), decimal_marks (suc n) (omega arith))
 
@@ -162,24 +162,24 @@ signed_number (negsuc n) h =
     some [] p l = absurd (omega arith)
     some (c ∷ cs) p l = p
 
-numbers_back : (zs : List ℤ) → All Fits zs → Numbers (map signed_decimal zs) zs
+numbers_back : (zs : List ℤ) → AllByRecursion Fits zs → Numbers (map signed_decimal zs) zs
 numbers_back [] h = tt
 numbers_back (z ∷ zs) h = (signed_number z h.0, numbers_back zs h.1)
 
-letters : (xs : List ℕ) → All Mark xs → All (Passes letter) xs
+letters : (xs : List ℕ) → AllByRecursion Mark xs → AllByRecursion (Passes letter) xs
 letters xs h = All-weaker Mark (Passes letter) (λ c k. k.0) xs h
 
 spaced_next : (zs : List ℤ) → NoLetter (spaced zs)
 spaced_next [] = tt
 spaced_next (z ∷ zs) = refl
 
-spaced_words : (zs : List ℤ) → All Fits zs → split [] (spaced zs) ≡ map signed_decimal zs
+spaced_words : (zs : List ℤ) → AllByRecursion Fits zs → split [] (spaced zs) ≡ map signed_decimal zs
 spaced_words [] h = refl
 spaced_words (z ∷ zs) h =
     word_first (signed_decimal z) (spaced zs) (letters (signed_decimal z) (signed_marks z h.0)) (signed_some z h.0) (spaced_next zs)
     ∙ ap (λ ws. signed_decimal z ∷ ws) (spaced_words zs h.1)
 
-spaced_plain : (zs : List ℤ) → All Fits zs → All (λ c. 32 ≤ c) (spaced zs)
+spaced_plain : (zs : List ℤ) → AllByRecursion Fits zs → AllByRecursion (λ c. 32 ≤ c) (spaced zs)
 spaced_plain [] h = tt
 spaced_plain (z ∷ zs) h = (
   omega arith,
@@ -192,12 +192,12 @@ marked : List ℕ → Bool
 marked [] = true
 marked (c ∷ cs) = cond (letter c) (cond (ltb c 32) false (marked cs)) false
 
-marks : (xs : List ℕ) → marked xs ≡ true → All Mark xs
+marks : (xs : List ℕ) → marked xs ≡ true → AllByRecursion Mark xs
 unfolding marked
 marks [] h = tt
 marks (c ∷ cs) h = ((grind (arith, nat_tests, h), grind (arith, nat_tests, h)), marks cs (grind (arith, nat_tests, h)))
 
-name_marks : (e : Entry) → (All Mark (name e)) × (0 < length (name e))
+name_marks : (e : Entry) → (AllByRecursion Mark (name e)) × (0 < length (name e))
 unfolding marked
 name_marks (Basins n) = (marks (codes "basins") refl, lit< tt)
 name_marks (Gauges n) = (marks (codes "gauges") refl, lit< tt)
@@ -211,7 +211,7 @@ name_marks Show = (marks (codes "show") refl, lit< tt)
 name_marks (Alarm b l) = (marks (codes "alarm") refl, lit< tt)
 
 module _ (e : Entry) (fit : Fit e) where
-  written_plain : All (λ c. 32 ≤ c) (written e)
+  written_plain : AllByRecursion (λ c. 32 ≤ c) (written e)
   written_plain =
       All-append (λ c. 32 ≤ c) (name e) (spaced (numbers e))
       (All-weaker Mark (λ c. 32 ≤ c) (λ c k. k.1) (name e) (name_marks e).0) (spaced_plain (numbers e) fit)

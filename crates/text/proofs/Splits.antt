@@ -1,7 +1,7 @@
 -- A line cut into its words. Assumes nothing.
 use Rattle.std.proofs.Common.{◌≡◌, ℕ, zero, suc, ◌<◌, ◌≤◌, Bool, true, false, cond, eqb, List, [], ◌∷◌, ◌++◌, length, get_or, take, drop, Some, None, IsUtf8, Option, unwrap_or, sym, refl, ap, ◌∙◌, subst, append_assoc, append-nil, add-one, arith, take-append-drop, length-take-le, get_or-take, Bor, MatchOption}
 use Rattle.std.specs.Str.{IsCharBoundary}
-use Rattle.std.specs.List.{AllByRecursion as All}
+use Rattle.std.specs.List.{AllByRecursion}
 use Rattle.std.proofs.ByRecursion.{All-from_get_or}
 use Rattle.std.proofs.lemmas.Str.{IsCharBoundary-start, IsCharBoundary-after_ascii}
 use Rattle.std.proofs.lemmas.Bool.Decides.{nat_tests}
@@ -11,12 +11,12 @@ abbrev pub Passes : (ℕ → Bool) → ℕ → Type 0
 Passes test c = test c ≡ true
 
 -- blanks in front are passed over
-gap_passed : (gap rest : List ℕ) → All (Passes blank) gap → split [] (gap ++ rest) ≡ split [] rest
+gap_passed : (gap rest : List ℕ) → AllByRecursion (Passes blank) gap → split [] (gap ++ rest) ≡ split [] rest
 gap_passed [] rest h = refl
 gap_passed (c ∷ gap) rest h = rw h.0 (gap_passed gap rest h.1)
 
 -- the letters in front go to the word begun
-letters_taken : (part w rest : List ℕ) → All (Passes letter) w → split part (w ++ rest) ≡ split (part ++ w) rest
+letters_taken : (part w rest : List ℕ) → AllByRecursion (Passes letter) w → split part (w ++ rest) ≡ split (part ++ w) rest
 letters_taken part [] rest h = ap (λ p. split p rest) (sym (append-nil part))
 letters_taken part (c ∷ w) rest h =
     let b : blank c ≡ false = grind (arith, nat_tests, h.0) in
@@ -37,7 +37,7 @@ word_ends c part (d ∷ rest) h = ends (blank d) (eqb d 35) refl refl
     ends false true p q = rw (p, q) refl
     ends false false p q = absurd (let z : ◌≡◌ {A = ℕ} 0 1 = grind (arith, nat_tests, h, p, q) in omega arith)
 
-pub word_first : (w rest : List ℕ) → All (Passes letter) w → 0 < length w → NoLetter rest
+pub word_first : (w rest : List ℕ) → AllByRecursion (Passes letter) w → 0 < length w → NoLetter rest
     → split [] (w ++ rest) ≡ w ∷ split [] rest
 word_first [] rest h l n = absurd (omega arith)
 word_first (c ∷ w) rest h l n = letters_taken [] (c ∷ w) rest h ∙ word_ends c w rest n
@@ -52,7 +52,7 @@ words_over [] b h = refl
 words_over (c ∷ cs) b h = let k : eqb c 35 ≡ true = grind (arith, nat_tests, b, h) in rw (b, k) refl
 
 module _ (test : ℕ → Bool) (bs : List ℕ) (n : ℕ) (front : Front test bs n) where
-  front_all : All (Passes test) (take n bs)
+  front_all : AllByRecursion (Passes test) (take n bs)
   front_all =
       All-from_get_or (Passes test) (take n bs) 0
       (λ i l. let k : i < n = omega (arith, length-take-le n bs front.within) in ap test (get_or-take n bs i 0 k) ∙ front.all i k)
@@ -120,7 +120,7 @@ pub chopped_by : (c : ℕ) (bs : List ℕ) (r : Option (Bor (List ℕ))) (whole 
 chopped_by c bs None whole h e = e ∙ sym (chop_none c bs h)
 chopped_by c bs (Some x) whole h e = sym (ap (chopped c) h ∙ chop_end c x.now)
 
-pub chop_same : (c : ℕ) (xs : List ℕ) → c < 32 → All (λ x. 32 ≤ x) xs → chopped c xs ≡ xs
+pub chop_same : (c : ℕ) (xs : List ℕ) → c < 32 → AllByRecursion (λ x. 32 ≤ x) xs → chopped c xs ≡ xs
 chop_same c [] l h = refl
 chop_same c (x ∷ []) l h = let k : eqb x c ≡ false = grind (arith, nat_tests, h.0) in rw k refl
 chop_same c (x ∷ y ∷ ys) l h = ap (λ t. x ∷ t) (chop_same c (y ∷ ys) l h.1)

@@ -1,7 +1,7 @@
 -- How an entry is written. Assumes nothing.
 use Rattle.std.specs.Prelude.{ℕ, List, [], ◌∷◌, ◌++◌, ℤ, codes}
 use Rattle.std.specs.Fmt.{signed_decimal}
-use Rattle.std.specs.List.{AllByRecursion as All}
+use Rattle.std.specs.List.{AllByRecursion}
 use Rattle.text.specs.declared.entry.Entry.{Entry}
 use Rattle.text.specs.declared.entry.Entry.TheVariants.{Basins, Gauges, Wrong, Range, Rate, Gauge, Step, Read, Show, Alarm}
 use Rattle.text.specs.declared.error.Field.{Field}
@@ -58,4 +58,4 @@ written e = name e ++ spaced (numbers e)
 
 -- its numbers are values of an i64, as those of every entry of the program are
 abbrev pub Fit : Entry → Type 0
-Fit e = All Fits (numbers e)
+Fit e = AllByRecursion Fits (numbers e)

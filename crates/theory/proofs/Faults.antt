@@ -2,7 +2,7 @@
 -- Assumes nothing.
 use Rattle.std.proofs.Common.{◌≡◌, ℕ, zero, suc, ◌<◌, ◌≤◌, true, false, not, ◌&&◌, ◌||◌, eqb, List, [], ◌∷◌, ◌++◌, map, sym, refl, ap, ◌∙◌, subst, inl, inr, arith}
 use mathlib.Core.Path.{fun_ext}
-use Rattle.std.specs.List.{ContainsAt as Has, AllByRecursion as All}
+use Rattle.std.specs.List.{ContainsAt as Has, AllByRecursion}
 use Rattle.std.proofs.ByRecursion.{All-append, All-map, All-weaker, all_has_itself}
 use Rattle.std.proofs.lemmas.Bool.{cases_Bool}
 use Rattle.std.proofs.lemmas.Bool.Decides.{nat_tests}
@@ -57,7 +57,7 @@ one_fault_more f g w p = record {
   known = λ a l. let e : w a ≡ false = p.known a (omega arith) in grind (arith, nat_tests);
 }
 
-pub listed_few : (f g : ℕ) → All (AtMost f g) (fault_sets f g)
+pub listed_few : (f g : ℕ) → AllByRecursion (AtMost f g) (fault_sets f g)
 listed_few f zero = (none_few f, tt)
 listed_few zero (suc g) = All-weaker (AtMost 0 g) (AtMost 0 (suc g)) (one_more 0 g) (fault_sets 0 g) (listed_few 0 g)
 listed_few (suc f) (suc g) =
@@ -68,15 +68,15 @@ listed_few (suc f) (suc g) =
     (listed_few f g)))
 
 -- ---- every set of at most f gauges below g is listed
-pub all_front : {X : Type 0} (P : X → Type 0) (xs ys : List X) → All P (xs ++ ys) → All P xs
+pub all_front : {X : Type 0} (P : X → Type 0) (xs ys : List X) → AllByRecursion P (xs ++ ys) → AllByRecursion P xs
 all_front P [] ys h = tt
 all_front P (x ∷ xs) ys h = (h.0, all_front P xs ys h.1)
 
-pub all_back : {X : Type 0} (P : X → Type 0) (xs ys : List X) → All P (xs ++ ys) → All P ys
+pub all_back : {X : Type 0} (P : X → Type 0) (xs ys : List X) → AllByRecursion P (xs ++ ys) → AllByRecursion P ys
 all_back P [] ys h = h
 all_back P (x ∷ xs) ys h = all_back P xs ys h.1
 
-pub all_before_map : {X Y : Type 0} (P : X → Type 0) (f : Y → X) (ys : List Y) → All P (map f ys) → All (λ y. P (f y)) ys
+pub all_before_map : {X Y : Type 0} (P : X → Type 0) (f : Y → X) (ys : List Y) → AllByRecursion P (map f ys) → AllByRecursion (λ y. P (f y)) ys
 all_before_map P f [] h = tt
 all_before_map P f (y ∷ ys) h = (h.0, all_before_map P f ys h.1)
 
@@ -107,13 +107,13 @@ with_without g v e a = grind (arith, nat_tests)
 -- its last gauge, where that is in it, the set is one of those to which the list adds this gauge.
 pub of_listed :
     (P : FaultSet → Type 0) → ((w v : FaultSet) → ((a : ℕ) → w a ≡ v a) → P w → P v) →
-    (f g : ℕ) → All P (fault_sets f g) → (v : FaultSet) → AtMost f g v → P v
+    (f g : ℕ) → AllByRecursion P (fault_sets f g) → (v : FaultSet) → AtMost f g v → P v
 of_listed P same f zero h v m = same no_faults v (λ a. sym (m.known a (omega arith))) h.0
 of_listed P same zero (suc g) h v m = of_listed P same zero g h v (one_less zero g v (grind (arith, m.few)) m)
 of_listed P same (suc f) (suc g) h v m =
     let old : List FaultSet = fault_sets (suc f) g in
     let less : List FaultSet = fault_sets f g in
-    let more : All P (map (with_fault g) less) = all_back P old (map (with_fault g) less) h in
+    let more : AllByRecursion P (map (with_fault g) less) = all_back P old (map (with_fault g) less) h in
     elim (cases_Bool (v g)) [
       | inl e ↦ same (with_fault g (without g v)) v (with_without g v e)
           (of_listed (λ w. P (with_fault g w)) (λ w u d. same (with_fault g w) (with_fault g u)

@@ -2,7 +2,7 @@
 use Rattle.std.proofs.Common.{◌≡◌, ℕ, ◌≤◌, Bool, true, false, ◌&&◌, ◌||◌, ◌⊎◌, List, [], ◌∷◌, map, ℤ, pos, ◌+ℤ◌, neg_ℤ, ◌≤ℤ◌, Some, None, Decides, Option, sym, refl, ◌∙◌, subst, inl, inr, arith}
 use borrow.Author.Differences.{ints}
 use borrow.Author.Tests.{clash}
-use Rattle.std.specs.List.{AllByRecursion as All}
+use Rattle.std.specs.List.{AllByRecursion}
 use Rattle.std.proofs.ByRecursion.{All-weaker}
 use Rattle.theory.specs.Bound.{Bound, none, at_most, Holds, NoLarger, looser}
 use Rattle.theory.specs.Level.{Levels, level, difference, Ranges, Ordered}
@@ -40,11 +40,11 @@ pub sharpest : Sharpest
 sharpest n g f start es i j b c u h = upper_end_least (Possible n g f start es) (λ x. difference x i j) b c u h
 
 -- ---- tests of all sets
-pub all_pass_tells : (t : FaultSet → Bool) (ws : List FaultSet) → Decides (all_pass t ws) (All (λ w. t w ≡ true) ws)
+pub all_pass_tells : (t : FaultSet → Bool) (ws : List FaultSet) → Decides (all_pass t ws) (AllByRecursion (λ w. t w ≡ true) ws)
 all_pass_tells t [] = (λ _. tt, λ _. refl)
 all_pass_tells t (w ∷ ws) = both (t w) (all_pass t ws) (all_pass_tells t ws)
   where
-    both : (a b : Bool) → Decides b (All (λ v. t v ≡ true) ws) → Decides (a && b) ((a ≡ true) × All (λ v. t v ≡ true) ws)
+    both : (a b : Bool) → Decides b (AllByRecursion (λ v. t v ≡ true) ws) → Decides (a && b) ((a ≡ true) × AllByRecursion (λ v. t v ≡ true) ws)
     both true b d = (λ e. (refl, d.0 e), λ p. d.1 p.1)
     both false b d = (λ e. absurd (clash e), λ p. absurd (clash p.0))
 
@@ -60,7 +60,7 @@ module _ (n g f : ℕ) (start : Ranges) (es : List Event) (ok : Ordered n start)
 
   -- what is true of the histories of each listed set is true of those of each set of at most f gauges
   of_each : (P : FaultSet → Levels → Type 0) → ((w v : FaultSet) (x : Levels) → ((a : ℕ) → w a ≡ v a) → P w x → P v x) →
-      All (λ w. (x : Levels) → History n start w es x → P w x) (fault_sets f g) → (v : FaultSet) →
+      AllByRecursion (λ w. (x : Levels) → History n start w es x → P w x) (fault_sets f g) → (v : FaultSet) →
       AtMost f g v → (x : Levels) → History n start v es x → P v x
   of_each P same all v few =
       of_listed (λ w. (x : Levels) → History n start w es x → P w x)
@@ -127,10 +127,10 @@ module _ (n g f : ℕ) (start : Ranges) (es : List Event) (ok : Ordered n start)
     Origin b = (w : FaultSet) × (z : Zone) × AtMost f g w × Kept n start w es z × Canonical n z × (z i j ≡ b)
 
     abbrev Tells : List FaultSet → Option Bound → Type 0
-    Tells ws None = All (λ w. (x : Levels) → History n start w es x → ⊥) ws
-    Tells ws (Some b) = Origin b × All (KeptBy b) ws
+    Tells ws None = AllByRecursion (λ w. (x : Levels) → History n start w es x → ⊥) ws
+    Tells ws (Some b) = Origin b × AllByRecursion (KeptBy b) ws
 
-    larger_all : (ws : List FaultSet) (b c : Bound) → NoLarger b c → All (KeptBy b) ws → All (KeptBy c) ws
+    larger_all : (ws : List FaultSet) (b c : Bound) → NoLarger b c → AllByRecursion (KeptBy b) ws → AllByRecursion (KeptBy c) ws
     larger_all ws b c h all = All-weaker (KeptBy b) (KeptBy c) (λ w k x p. holds_larger b c (difference x i j) h (k x p)) ws all
 
     tells_more : (w : FaultSet) (ws : List FaultSet) (p q : Option Bound) → Tells (w ∷ []) p → Tells ws q →
@@ -165,7 +165,7 @@ module _ (n g f : ℕ) (start : Ranges) (es : List Event) (ok : Ordered n start)
           ((λ x h. (k.sound x h).holds i j hi hj), tt),
         )
 
-    tells : (ws : List FaultSet) → All (AtMost f g) ws → Tells ws (loosest (map (λ w. bound_in n i j (after w)) ws))
+    tells : (ws : List FaultSet) → AllByRecursion (AtMost f g) ws → Tells ws (loosest (map (λ w. bound_in n i j (after w)) ws))
     tells [] all = tt
     tells (w ∷ ws) all = tells_more w ws (bound_in n i j (after w)) (loosest (map (λ v. bound_in n i j (after v)) ws))
         (tells_one w all.0) (tells ws all.1)

@@ -3,7 +3,7 @@
 -- Two basins, ranges 0 to 100, rise 3 and fall 2 for both; gauge 0 at basin 1, gauge 1 at basin 2, gauge 2 at basins 1 and
 -- 2; at most one gauge is wrong.
 use Rattle.std.specs.Prelude.{ℕ, zero, suc, Bool, false, ◌||◌, List, [], ◌∷◌, reverse, take, ℤ, pos, neg_ℤ, Decides, ◌==◌, refl}
-use Rattle.std.specs.List.{AllByRecursion as All}
+use Rattle.std.specs.List.{AllByRecursion}
 use Rattle.theory.specs.Bound.{Bound, at_most, zero_bound}
 use Rattle.theory.specs.Level.{Levels, level, difference, Ranges, Rates}
 use Rattle.theory.specs.History.{Event, step, reads}
@@ -64,7 +64,7 @@ listed a (b ∷ bs) = a == b || listed a bs
 
 -- Just the gauges of the list are wrong in all histories.
 abbrev pub Names : ℕ → List ℕ → Type 0
-Names k named = All (λ a. Decides (listed a named) (AlwaysWrong 2 3 1 ranges (so_far k) a)) (0 ∷ 1 ∷ 2 ∷ [])
+Names k named = AllByRecursion (λ a. Decides (listed a named) (AlwaysWrong 2 3 1 ranges (so_far k) a)) (0 ∷ 1 ∷ 2 ∷ [])
 
 -- What is shown after some events: basin 1, basin 2 and first less second, each from its least to its greatest value, and
 -- the named gauges.
