@@ -76,13 +76,6 @@ mod tests {
                 },
             ),
             ("show", Entry::Show),
-            (
-                "alarm 2 -250",
-                Entry::Alarm {
-                    basin: 2,
-                    limit: -250,
-                },
-            ),
             // spaces, ends and comments
             (
                 " \t read\t0   48 \t52  ",
@@ -130,11 +123,7 @@ mod tests {
                 "basins # two",
                 "the number of basins is missing after 'basins'",
             ),
-            ("alarm 1", "the limit is missing after '1'"),
-            ("alarm", "the basin is missing after 'alarm'"),
             ("step 1", "'1' is one word too many"),
-            ("alarm 1 50 2", "'2' is one word too many"),
-            ("alarm 1 +5", "the limit is no number: '+5'"),
             ("rate 1 3 2 x", "'x' is one word too many"),
             ("wrong +5", "the number of wrong gauges is no number: '+5'"),
             ("wrong -", "the number of wrong gauges is no number: '-'"),
@@ -170,12 +159,30 @@ mod tests {
             read.to_string(rt.alloc())?.as_str(),
             "read 11 -9223372036854775808 -7"
         );
+        assert_eq!(rt; Entry::Show.to_string(rt.alloc())?.as_str(), "show");
+        Ok(())
+    }
+
+    #[test]
+    fn reads_and_writes_an_alarm(rt: HostRuntime) -> Result<(), Fail> {
         let alarm = Entry::Alarm {
             basin: 2,
             limit: -250,
         };
+        assert_eq!(rt; parse("alarm 2 -250")?, Some(alarm));
         assert_eq!(rt; alarm.to_string(rt.alloc())?.as_str(), "alarm 2 -250");
-        assert_eq!(rt; Entry::Show.to_string(rt.alloc())?.as_str(), "show");
+        let table = [
+            ("alarm", "the basin is missing after 'alarm'"),
+            ("alarm 1", "the limit is missing after '1'"),
+            ("alarm 1 +5", "the limit is no number: '+5'"),
+            ("alarm 1 50 2", "'2' is one word too many"),
+        ];
+        for (line, message) in table {
+            match parse(line) {
+                Ok(_) => return Err(Fail::new(line)),
+                Err(fault) => assert_eq!(rt; fault.to_string(rt.alloc())?.as_str(), message),
+            }
+        }
         Ok(())
     }
 }
