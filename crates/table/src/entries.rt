@@ -3,7 +3,7 @@ ghost use Rattle.std.specs.Prelude.{◌≡◌};
 ghost use Rattle.plant.specs.declared.kinds.Event.TheVariants as event;
 ghost use Rattle.table.specs.Says.{TakeSays, TakesAll};
 
-use crate::core::{read_table, step_table};
+use crate::lent::{read_table, step_table};
 use crate::state::Observer;
 use plant::{Event, GaugeReading};
 use refusal::Refusal;

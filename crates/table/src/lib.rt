@@ -1,13 +1,13 @@
 // The zone table, and the observer that keeps it.
 #![tactic(auto)]
 
-mod core;
 mod entries;
+mod lent;
 mod making;
 mod parts;
 mod state;
 
-pub use core::{read_table, start_table, step_table};
+pub use lent::{read_table, start_table, step_table};
 pub use state::Observer;
 
 // Two basins and three gauges, of which one may be wrong. Values by hand; zones are written row by row: the datum, basin 1,

@@ -5,7 +5,7 @@ ghost use Rattle.faults.specs.Limits.{refusal_of};
 ghost use Rattle.faults.specs.Sets.{Lists};
 ghost use Rattle.table.specs.Says.{AfterSays, NewSays};
 
-use crate::core::start_table;
+use crate::lent::start_table;
 use crate::state::Observer;
 use faults::{FaultSet, FaultsError};
 use plant::{Event, Plant};

@@ -9,7 +9,7 @@ use Rattle.plant.specs.Resolve.{placed_reading}
 use Rattle.plant.proofs.Limits.{basins_within, gauge_placed, gauges_few}
 use Rattle.table.specs.Parts.{AllRead}
 use Rattle.table.proofs.Placing.{gauge_there, placed_taken}
-use Rattle.table.proofs.core.read_table.Goals as goal
+use Rattle.table.proofs.lent.read_table.Goals as goal
 
 pub read_all-requires : goal.read_all-requires
 read_all-requires c =

@@ -1,7 +1,7 @@
 use Rattle.std.proofs.Common.{get_or}
 use Rattle.table.specs.Parts.{Heeds}
 use Rattle.table.proofs.Parting.{Going}
-use Rattle.table.proofs.core.read_all.Given as goal
+use Rattle.table.proofs.lent.read_all.Given as goal
 
 abbrev pub invariant-loop-place : goal.invariant-loop-place
 invariant-loop-place l =

@@ -1,7 +1,7 @@
 use Rattle.std.proofs.Common.{length, vec_items, subst, MatchResult}
 use Rattle.refusal.proofs.Orders.{never_errs}
 use Rattle.table.specs.Parts.{AllStart}
-use Rattle.table.proofs.core.start_table.Goals as goal
+use Rattle.table.proofs.lent.start_table.Goals as goal
 
 pub returns : goal.returns
 returns c =

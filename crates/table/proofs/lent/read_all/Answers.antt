@@ -6,8 +6,8 @@ use Rattle.zones.specs.Checks.{reading_refused, size_refused}
 use Rattle.table.specs.Parts.{Heeds, part, size}
 use Rattle.table.proofs.Parting.{going_more, part_length, part_within, size_taken, taken_both}
 use Rattle.table.proofs.Parting.{heeds_blamed, heeds_trusted}
-use Rattle.table.proofs.core.read_all.Goals as goal
-use Rattle.table.proofs.core.read_all.Goals.{then-not-contains+in_ok-read_part, else-not-contains}
+use Rattle.table.proofs.lent.read_all.Goals as goal
+use Rattle.table.proofs.lent.read_all.Goals.{then-not-contains+in_ok-read_part, else-not-contains}
 
 pub read_part-requires : goal.read_part-requires
 read_part-requires c = record {
