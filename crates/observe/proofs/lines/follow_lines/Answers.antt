@@ -1,6 +1,6 @@
 use Rattle.std.proofs.Common.{◌-◌, ◌^◌, ◌<◌, arith}
-use Rattle.follow.proofs.Counting.{line_once}
-use Rattle.follow.proofs.lines.follow_lines.Goals as goal
+use Rattle.observe.proofs.Counting.{line_once}
+use Rattle.observe.proofs.lines.follow_lines.Goals as goal
 
 pub loop-turn-preserved : goal.loop-turn-preserved
 loop-turn-preserved g c =

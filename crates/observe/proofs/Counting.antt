@@ -2,12 +2,12 @@
 use Rattle.std.proofs.Common.{◌≡◌, ℕ, ◌+◌, ◌-◌, ◌^◌, ◌<◌, ◌≤◌, Bool, true, false, List, Some, None, Ok, Err, Option, Result, sym, refl, subst, arith}
 use Rattle.text.specs.declared.entry.Entry.{Entry}
 use Rattle.text.specs.declared.error.LineError.{LineError}
-use Rattle.follow.specs.declared.counts.Counts.{Counts}
-use Rattle.follow.specs.declared.follower.Follower.{Follower}
-use Rattle.follow.specs.declared.kinds.Answer.{Answer}
-use Rattle.follow.specs.declared.kinds.Answer.TheVariants.{Taken, Refused, NoGauge, Shown, Rings, Unfit, Late}
-use Rattle.follow.specs.Counted.{Once, more, lined, failed, noted}
-use Rattle.follow.specs.Followed.{Answered, Entered, LineSays, Ready, ends_plant, one_more}
+use Rattle.observe.specs.declared.counts.Counts.{Counts}
+use Rattle.observe.specs.declared.follower.Follower.{Follower}
+use Rattle.observe.specs.declared.kinds.Answer.{Answer}
+use Rattle.observe.specs.declared.kinds.Answer.TheVariants.{Taken, Refused, NoGauge, Shown, Rings, Unfit, Late}
+use Rattle.observe.specs.Counted.{Once, more, lined, failed, noted}
+use Rattle.observe.specs.Followed.{Answered, Entered, LineSays, Ready, ends_plant, one_more}
 
 more_le : (n : ℕ) → more n ≤ n + 1
 more_le n = omega arith

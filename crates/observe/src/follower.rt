@@ -2,9 +2,9 @@
 ghost use Rattle.std.specs.Prelude.{◌≡◌, IfOk, Err, MatchResult};
 ghost use Rattle.draft.specs.Finished.{PlantSays};
 ghost use Rattle.draft.specs.Noted.{blank};
-ghost use Rattle.follow.specs.Counted.{none, noted};
-ghost use Rattle.follow.specs.Followed.{BeginSays, Begun, EnterSays, ObserveSays, RingSays, answer_of, ends_plant, word_of, strays_of};
-ghost use Rattle.follow.specs.declared.kinds.Stage.TheVariants.{Drafting, Following};
+ghost use Rattle.observe.specs.Counted.{none, noted};
+ghost use Rattle.observe.specs.Followed.{BeginSays, Begun, EnterSays, ObserveSays, RingSays, answer_of, ends_plant, word_of, strays_of};
+ghost use Rattle.observe.specs.declared.kinds.Stage.TheVariants.{Drafting, Following};
 
 use crate::counts::Counts;
 use crate::kinds::{Answer, Stage};

@@ -1,7 +1,7 @@
 use Rattle.std.proofs.Common.{sym, ◌∙◌}
-use Rattle.follow.proofs.Counting.{ready_at, ready_not}
-use Rattle.follow.proofs.lines.enter.Goals as goal
-use Rattle.follow.proofs.lines.enter.Goals.{then-ends_plant+in_ok-begin, else-ends_plant}
+use Rattle.observe.proofs.Counting.{ready_at, ready_not}
+use Rattle.observe.proofs.lines.enter.Goals as goal
+use Rattle.observe.proofs.lines.enter.Goals.{then-ends_plant+in_ok-begin, else-ends_plant}
 
 pub returns : goal.returns
 returns g c = record {

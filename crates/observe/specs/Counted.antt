@@ -1,9 +1,9 @@
 -- What has been read so far. Assumes nothing: these are definitions.
 use Rattle.std.specs.Prelude.{◌≡◌, ℕ, ◌+◌, ◌-◌, ◌^◌, ◌≤◌, min, Some, None, Option, String}
 use Rattle.std.specs.declared.alloc.Global.{Global}
-use Rattle.follow.specs.declared.counts.Counts.{Counts}
-use Rattle.follow.specs.declared.kinds.Answer.{Answer}
-use Rattle.follow.specs.declared.kinds.Answer.TheVariants.{Taken, Refused, NoGauge, Shown, Rings, Unfit, Late}
+use Rattle.observe.specs.declared.counts.Counts.{Counts}
+use Rattle.observe.specs.declared.kinds.Answer.{Answer}
+use Rattle.observe.specs.declared.kinds.Answer.TheVariants.{Taken, Refused, NoGauge, Shown, Rings, Unfit, Late}
 
 abbrev pub none : Counts
 none = record { lines = 0; errors = 0; strays = 0 }

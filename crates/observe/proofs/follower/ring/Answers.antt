@@ -1,9 +1,9 @@
 use Rattle.std.proofs.Common.{◌≡◌, Some, sym, ap, ◌∙◌, subst, w64, to_z, of_z}
 use Rattle.std.proofs.lemmas.Int.{to_z-of_z}
 use Rattle.shown.specs.Says.{AlarmSays}
-use Rattle.follow.specs.declared.kinds.Answer.TheVariants as answers
-use Rattle.follow.specs.Followed.{RingSays, Rung, word_of}
-use Rattle.follow.proofs.follower.ring.Goals as goal
+use Rattle.observe.specs.declared.kinds.Answer.TheVariants as answers
+use Rattle.observe.specs.Followed.{RingSays, Rung, word_of}
+use Rattle.observe.proofs.follower.ring.Goals as goal
 
 pub returns-in-Ok : goal.returns-in-Ok
 returns-in-Ok c =

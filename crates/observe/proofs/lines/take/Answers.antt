@@ -1,8 +1,8 @@
 use Rattle.std.proofs.Common.{Ok, Option, sym, subst}
 use Rattle.text.specs.declared.entry.Entry.{Entry}
-use Rattle.follow.specs.declared.counts.Counts.{Counts}
-use Rattle.follow.specs.Followed.{Answered, Entered, one_more}
-use Rattle.follow.proofs.lines.take.Goals as goal
+use Rattle.observe.specs.declared.counts.Counts.{Counts}
+use Rattle.observe.specs.Followed.{Answered, Entered, one_more}
+use Rattle.observe.proofs.lines.take.Goals as goal
 
 pub returns-in_ok-enter-in-Some : goal.returns-in_ok-enter-in-Some
 returns-in_ok-enter-in-Some g c =

@@ -2,8 +2,8 @@
 ghost use Rattle.std.specs.Prelude.{◌≡◌, true, IfOk, Err, IsUtf8, OnOk};
 ghost use Rattle.text.specs.declared.error.LineError.TheVariants.{NotText};
 ghost use Rattle.text.specs.Lines.{Parses};
-ghost use Rattle.follow.specs.Counted.{Once, none};
-ghost use Rattle.follow.specs.Followed.{Entered, LineSays, Ready};
+ghost use Rattle.observe.specs.Counted.{Once, none};
+ghost use Rattle.observe.specs.Followed.{Entered, LineSays, Ready};
 
 use crate::counts::Counts;
 use crate::follower::{Follower, ends_plant};

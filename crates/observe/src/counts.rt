@@ -1,6 +1,6 @@
 // What has been read so far.
 ghost use Rattle.std.specs.Prelude.{◌≡◌};
-ghost use Rattle.follow.specs.Counted.{failed, lined, none, noted, strayed};
+ghost use Rattle.observe.specs.Counted.{failed, lined, none, noted, strayed};
 
 use crate::kinds::Answer;
 

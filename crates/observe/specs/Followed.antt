@@ -21,12 +21,12 @@ use Rattle.shown.specs.Says.{AlarmSays}
 use Rattle.shown.specs.declared.kinds.Alarm.{Alarm as Alarms}
 use Rattle.table.specs.Says.{Begins, Takes}
 use Rattle.table.specs.declared.state.Observer.{Observer}
-use Rattle.follow.specs.declared.follower.Follower.{Follower}
-use Rattle.follow.specs.declared.kinds.Answer.{Answer}
-use Rattle.follow.specs.declared.kinds.Answer.TheVariants as answers
-use Rattle.follow.specs.declared.kinds.Stage.{Stage}
-use Rattle.follow.specs.declared.kinds.Stage.TheVariants.{Drafting, Following}
-use Rattle.follow.specs.Counted.{lined, failed, strayed, noted}
+use Rattle.observe.specs.declared.follower.Follower.{Follower}
+use Rattle.observe.specs.declared.kinds.Answer.{Answer}
+use Rattle.observe.specs.declared.kinds.Answer.TheVariants as answers
+use Rattle.observe.specs.declared.kinds.Stage.{Stage}
+use Rattle.observe.specs.declared.kinds.Stage.TheVariants.{Drafting, Following}
+use Rattle.observe.specs.Counted.{lined, failed, strayed, noted}
 
 -- An event or a request, with which the plant ends.
 abbrev pub ends_plant : Entry → Bool

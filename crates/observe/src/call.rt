@@ -1,7 +1,7 @@
 // What the command line asks for.
 ghost use Rattle.std.specs.Prelude.{◌≡◌, true, is_some, Some, None, string_bytes, codes, String as Text, ◌≢◌};
 ghost use Rattle.std.specs.declared.alloc.Global.{Global};
-ghost use Rattle.follow.specs.Counted.{Alone};
+ghost use Rattle.observe.specs.Counted.{Alone};
 
 #[derive(Drop)]
 pub enum Call {

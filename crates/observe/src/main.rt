@@ -1,8 +1,8 @@
-// follow [FILE]: reads the plant, the steps and the readings line by line, and answers each request.
+// observe [FILE]: reads the plant, the steps and the readings line by line, and answers each request.
 #![tactic(auto)]
 
 ghost use Rattle.std.specs.Prelude.{◌≡◌, IfOk};
-ghost use Rattle.follow.specs.Counted.{Once};
+ghost use Rattle.observe.specs.Counted.{Once};
 
 mod call;
 mod counts;
@@ -19,10 +19,10 @@ use std::io::{BufWriter, Read};
 use std::process::ExitCode;
 use std::{env, io};
 
-const USAGE: &str = "usage: follow [FILE]\n       follow --help";
+const USAGE: &str = "usage: observe [FILE]\n       observe --help";
 
 const HELP: &str = "\
-usage: follow [FILE]
+usage: observe [FILE]
 
 Reads a plant, steps and readings from FILE, or from standard input, and answers
 each request on standard output. `show` answers with what each level can be, then
@@ -83,7 +83,7 @@ fn run<R: Read + Drop>(rt: &HostRuntime, name: &str, input: io::Result<R>) -> Re
     let from = match input {
         Ok(from) => from,
         Err(e) => {
-            let _ = eprintln!(rt; "follow: {name}: cannot open: {e}");
+            let _ = eprintln!(rt; "observe: {name}: cannot open: {e}");
             return Err(Failed);
         }
     };
@@ -98,7 +98,7 @@ fn run<R: Read + Drop>(rt: &HostRuntime, name: &str, input: io::Result<R>) -> Re
         // it has been told on standard output
         Err(Halt::Refused) => Err(Failed),
         Err(halt) => {
-            let _ = eprintln!(rt; "follow: {name}: {halt}");
+            let _ = eprintln!(rt; "observe: {name}: {halt}");
             Err(Failed)
         }
     }
@@ -109,7 +109,7 @@ fn start(rt: &HostRuntime) -> Result<(), Failed> {
     let mut args = match env::args(rt) {
         Ok(args) => args,
         Err(e) => {
-            let _ = eprintln!(rt; "follow: arguments: {e}");
+            let _ = eprintln!(rt; "observe: arguments: {e}");
             return Err(Failed);
         }
     };
