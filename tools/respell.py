@@ -66,7 +66,7 @@ pair-name pair-numbers pair-refused pairFields part-before part-put part-within 
 place-within placed-10 placed-2 placed-3 placed-5 placed-8 placed-reading placed-taken placement-refused plant-refused
 possible-before range-ok range-refused range-within ranges-of ranges-ok ranges-taken rate-of rate-refused rates-in
 rates-of rates-ok rates-taken reach-above reach-below reaching-in read-fails read-followed reading-of reading-ok
-reading-only-sharpens reading-refused reading-smaller readings-refused ready-not ready-room refusal-of relax-same
+reading-only-sharpens reading-refused reading-smaller readings-refused readingsAfter ready-not ready-room refusal-of relax-same
 relax-sized relaxed-same relaxed-smaller relaxed-there request-refused resolved-more resolved-within rise-at rise-long
 rise-of rise-ok rise-within roof-by roof-sized row-2 row-3 row-4 row-5 row-8 row-refused row-skip said-or-not
 same-alarm same-canonical same-closed same-column same-history same-levels same-list same-lower same-relaxed
@@ -75,7 +75,7 @@ sharper-is sharper-left sharper-means sharper-no-larger sharper-one-of sharper-r
 shown-upper signed-marks signed-number signed-some size-counted size-refused size-taken sized-floor sized-more
 sized-sum sized-zero sizes-hold some-levels some-low spaced-next spaced-plain spaced-words span-exact span-kept
 spans-of split-bit stays-so step-canonical step-exact step-followed step-k step-m step-refused step-roof step-tame
-steps-few steps-in steps-more steps-push steps-refused still-none still-there stray-of strays-of sum-commutes
+steps-few steps-in steps-more steps-push steps-refused stepsAfter still-none still-there stray-of strays-of sum-commutes
 sum-exact sum-holds sum-larger sum-monotone sum-never-sharper sum-no-larger sum-ordered sum-sized surer-led
 table-refused take-least taken-all taken-both taken-skip tame-closed tells-empty tells-one test-is through-first
 through-last through-now to-theory told-decides tops-more tops-skip total-sum track-reading track-step trajectory-of

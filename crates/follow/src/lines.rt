@@ -1,0 +1,162 @@
+// Lines from any input, read and answered one by one.
+ghost use Rattle.std.specs.Prelude.{◌≡◌, ◌+◌, ◌≤◌, IfOk, Err, IsUtf8};
+ghost use Rattle.text.specs.declared.error.LineError.TheVariants.{NotText};
+ghost use Rattle.text.specs.Lines.{Parses};
+ghost use Rattle.follow.specs.Counted.{Noted, Told};
+
+use crate::counts::Counts;
+use std::alloc::Global;
+use std::io::{BufRead, BufReader, Read, Write};
+use std::{fmt, io};
+use text::{Entry, LineError};
+
+// Why following ended before the input did.
+#[derive(Drop)]
+pub enum Halt {
+    Reading(io::Error),
+    Writing(io::Error),
+}
+
+impl fmt::Display for Halt {
+    fn fmt<W: fmt::Write>(&self, f: &mut fmt::Formatter<W>) -> fmt::Result {
+        match self {
+            Halt::Reading(e) => write!(f, "cannot read: {e}"),
+            Halt::Writing(e) => write!(f, "cannot write: {e}"),
+        }
+    }
+}
+
+// Bytes that are no UTF-8 are no line.
+fn read_line(bytes: &[u8]) -> Result<Option<Entry>, LineError<'_>>
+    ensures text { IsUtf8 bytes.now → Parses bytes.now result }
+    ensures other { (IsUtf8 bytes.now → ⊥) → result ≡ Err NotText }
+{
+    match std::str::from_utf8(bytes) {
+        Ok(line) => text::parse(line),
+        Err(_) => Err(LineError::NotText),
+    }
+}
+
+// An alarm is no entry of this program: a line with that name cannot be read, whatever stands after it.
+fn without_alarms<'a>(
+    bytes: &'a [u8],
+    reading: Result<Option<Entry>, LineError<'a>>,
+) -> Result<Option<Entry>, LineError<'a>>
+    ensures { Told reading.entry result }
+{
+    let no_entry = LineError::Unknown { word: "alarm" };
+    match reading {
+        Ok(Some(Entry::Alarm { .. })) => Err(no_entry),
+        // a byte that is no text comes first, and an unknown name is another one
+        Err(LineError::NotText | LineError::Unknown { .. }) => reading,
+        // the name is an entry's, and of those only this one begins so
+        Err(_) if bytes.trim_ascii_start().starts_with(b"alarm") => Err(no_entry),
+        _ => reading,
+    }
+}
+
+// Counts one line, and prints its answer or what is wrong with it.
+fn take<O: Write, E: Write>(
+    counts: &mut Counts,
+    bytes: &[u8],
+    out: &mut O,
+    err: &mut E,
+) -> io::Result<()>
+    ensures { Noted bytes.now counts.old counts.new }
+{
+    let reading = read_line(bytes);
+    counts.note(&reading);
+    match without_alarms(bytes, reading) {
+        Ok(Some(Entry::Show)) => {
+            let answer = *counts;
+            writeln!(out, "{answer}")?;
+            out.flush()
+        }
+        Ok(_) => Ok(()),
+        Err(fault) => {
+            let number = counts.lines;
+            writeln!(err, "line {number}: {fault}")?;
+            err.flush()
+        }
+    }
+}
+
+// Follows the input to its end, and answers what was read: no line counts twice.
+pub fn follow<R: Read + Drop, O: Write, E: Write>(
+    heap: Global,
+    from: R,
+    out: &mut O,
+    err: &mut E,
+) -> Result<Counts, Halt>
+    ensures { IfOk result (λ c. c.steps + c.readings + c.refused ≤ c.lines) }
+{
+    let mut input = BufReader::new(heap, from).map_err(Halt::Reading)?;
+    let mut line = Vec::new(heap);
+    let mut counts = Counts::new();
+    for _turn in 0..u64::MAX {
+        line.clear();
+        match input.read_until(b'\n', &mut line) {
+            Ok(0) => break,
+            Ok(_) => {}
+            Err(e) => return Err(Halt::Reading(e)),
+        }
+        if let Err(e) = take(&mut counts, line.as_slice(), out, err) {
+            return Err(Halt::Writing(e));
+        }
+    }
+    Ok(counts)
+}
+
+#[cfg(test)]
+mod tests {
+    use super::*;
+    use std::process::Abort;
+    use std::test::Fail;
+
+    fn check_follow(
+        rt: &(impl Abort + AllocGlobal),
+        input: &[u8],
+        answers: &[u8],
+        faults: &[u8],
+    ) -> Result<(), Fail> {
+        let mut out = Vec::new(rt.alloc());
+        let mut err = Vec::new(rt.alloc());
+        match follow(rt.alloc(), input, &mut out, &mut err) {
+            Ok(_) => {}
+            Err(_) => return Err(Fail::new("halted")),
+        }
+        assert!(rt; out.as_slice() == answers);
+        assert!(rt; err.as_slice() == faults);
+        Ok(())
+    }
+
+    #[test]
+    fn goes_on_after_lines_that_cannot_be_read(rt: HostRuntime) -> Result<(), Fail> {
+        let input = b"step\nstepp\n\xff\nread 0 4 5\nread 0\nsh\0ow\nshow\nstep 1";
+        let faults = b"line 2: 'stepp' is no entry\nline 3: a byte that is no text\n\
+            line 5: the low value is missing after '0'\nline 6: a byte that is no text\n\
+            line 8: '1' is one word too many\n";
+        check_follow(&rt, input, b"events 1 steps 1 readings\n", faults)
+    }
+
+    #[test]
+    fn takes_either_line_end(rt: HostRuntime) -> Result<(), Fail> {
+        let input = b"\r\nstep # one\r\n\nshow\r\nread 3 -1 0\nstep\nshow";
+        check_follow(
+            &rt,
+            input,
+            b"events 1 steps 0 readings\nevents 2 steps 1 readings\n",
+            b"",
+        )
+    }
+
+    #[test]
+    fn tells_alarms_as_unknown_names(rt: HostRuntime) -> Result<(), Fail> {
+        let input = b"alarm 1 56\n\talarm -1 0 # one\r\nalarm\nalarm 1\nalarm 1 +5\nalarms 1 5\n\
+            alarm 1 5 2\nstep\nshow\nalarm \0";
+        let faults = b"line 1: 'alarm' is no entry\nline 2: 'alarm' is no entry\n\
+            line 3: 'alarm' is no entry\nline 4: 'alarm' is no entry\nline 5: 'alarm' is no entry\n\
+            line 6: 'alarms' is no entry\nline 7: 'alarm' is no entry\nline 10: a byte that is no text\n";
+        check_follow(&rt, input, b"events 1 steps 0 readings\n", faults)
+    }
+}
