@@ -34,7 +34,7 @@ mod tests {
 
     // Takes a line, if it has words.
     fn note(draft: &mut Draft, number: u64, line: &str) -> Result<(), Fail> {
-        if let Some(entry) = text::parse(line)? {
+        if let Some(entry) = entries::parse(line)? {
             draft.note(number, entry)?;
         }
         Ok(())
@@ -56,7 +56,7 @@ mod tests {
         line: &str,
         message: &str,
     ) -> Result<(), Fail> {
-        let Some(entry) = text::parse(line)? else {
+        let Some(entry) = entries::parse(line)? else {
             return Err(Fail::new(line));
         };
         match draft.note(12, entry) {

@@ -1,11 +1,10 @@
 -- What has been read so far. Assumes nothing.
-use Rattle.std.specs.Prelude.{◌≡◌, ℕ, ◌+◌, ◌-◌, ◌^◌, ◌⊎◌, min, List, ◌++◌, Some, None, IsErrAnd, Ok, Err, codes, IsUtf8, decimal, Option, Result, String}
+use Rattle.std.specs.Prelude.{◌≡◌, ℕ, ◌+◌, ◌-◌, ◌^◌, min, List, ◌++◌, Some, None, Ok, Err, codes, IsUtf8, decimal, Option, Result, String}
 use Rattle.std.specs.declared.alloc.Global.{Global}
 use Rattle.text.specs.declared.entry.Entry.{Entry}
-use Rattle.text.specs.declared.entry.Entry.TheVariants.{Basins, Gauges, Wrong, Range, Rate, Gauge, Step, Read, Show, Alarm}
+use Rattle.text.specs.declared.entry.Entry.TheVariants.{Basins, Gauges, Wrong, Range, Rate, Gauge, Step, Read, Show}
 use Rattle.text.specs.declared.error.LineError.{LineError}
 use Rattle.text.specs.declared.error.LineError.TheVariants.{NotText}
-use Rattle.text.specs.Faults.{told, unknown}
 use Rattle.text.specs.Lines.{Parses}
 use Rattle.follow.specs.declared.counts.Counts.{Counts}
 
@@ -27,7 +26,6 @@ steps_after (Gauge g a b) k = k
 steps_after Step k = more k
 steps_after (Read g l h) k = k
 steps_after Show k = k
-steps_after (Alarm b l) k = k
 
 abbrev pub readings_after : Entry → ℕ → ℕ
 readings_after (Basins n) k = k
@@ -39,27 +37,13 @@ readings_after (Gauge g a b) k = k
 readings_after Step k = k
 readings_after (Read g l h) k = more k
 readings_after Show k = k
-readings_after (Alarm b l) k = k
 
 -- the counts after a line that was read so
--- An alarm is no entry of this program: its line cannot be read.
 abbrev pub noted : Result (Option Entry) LineError → Counts → Counts
 noted (Ok None) c = record { lines = more c.lines; steps = c.steps; readings = c.readings; refused = c.refused }
-noted (Ok (Some (Alarm b l))) c =
-    record { lines = more c.lines; steps = c.steps; readings = c.readings; refused = more c.refused }
 noted (Ok (Some e)) c =
     record { lines = more c.lines; steps = steps_after e c.steps; readings = readings_after e c.readings; refused = c.refused }
 noted (Err x) c = record { lines = more c.lines; steps = c.steps; readings = c.readings; refused = more c.refused }
-
--- the name of an alarm is that of no entry
-abbrev pub NoAlarm : LineError → Type 0
-NoAlarm x = told x ≡ unknown (codes "alarm")
-
--- what is told of a line that was read so: an alarm, or a fault in one, as an unknown name
-abbrev pub Told : Result (Option Entry) LineError → Result (Option Entry) LineError → Type 0
-Told (Ok (Some (Alarm b l))) r = IsErrAnd r NoAlarm
-Told (Ok x) r = r ≡ Ok x
-Told (Err x) r = IsErrAnd r (λ y. (y ≡ x) ⊎ NoAlarm y)
 
 -- the counts after a line of these bytes, which may be no text
 pub record Noted (bytes : List ℕ) (before after : Counts) : Type 0 where

@@ -42,8 +42,6 @@ impl Counts {
                     },
                 ),
             ) => self.readings = self.readings.saturating_add(1),
-            // an alarm is no entry of this program: its line cannot be read
-            Ok(Some(Entry::Alarm { .. })) => self.refused = self.refused.saturating_add(1),
             Ok(_) => {}
             Err(_) => self.refused = self.refused.saturating_add(1),
         }

@@ -2,7 +2,7 @@
 ghost use Rattle.std.specs.Prelude.{◌≡◌, ◌+◌, ◌≤◌, IfOk, Err, IsUtf8};
 ghost use Rattle.text.specs.declared.error.LineError.TheVariants.{NotText};
 ghost use Rattle.text.specs.Lines.{Parses};
-ghost use Rattle.follow.specs.Counted.{Noted, Told};
+ghost use Rattle.follow.specs.Counted.{Noted};
 
 use crate::counts::Counts;
 use std::alloc::Global;
@@ -37,24 +37,6 @@ fn read_line(bytes: &[u8]) -> Result<Option<Entry>, LineError<'_>>
     }
 }
 
-// An alarm is no entry of this program: a line with that name cannot be read, whatever stands after it.
-fn without_alarms<'a>(
-    bytes: &'a [u8],
-    reading: Result<Option<Entry>, LineError<'a>>,
-) -> Result<Option<Entry>, LineError<'a>>
-    ensures { Told reading.entry result }
-{
-    let no_entry = LineError::Unknown { word: "alarm" };
-    match reading {
-        Ok(Some(Entry::Alarm { .. })) => Err(no_entry),
-        // a byte that is no text comes first, and an unknown name is another one
-        Err(LineError::NotText | LineError::Unknown { .. }) => reading,
-        // the name is an entry's, and of those only this one begins so
-        Err(_) if bytes.trim_ascii_start().starts_with(b"alarm") => Err(no_entry),
-        _ => reading,
-    }
-}
-
 // Counts one line, and prints its answer or what is wrong with it.
 fn take<O: Write, E: Write>(
     counts: &mut Counts,
@@ -66,7 +48,7 @@ fn take<O: Write, E: Write>(
 {
     let reading = read_line(bytes);
     counts.note(&reading);
-    match without_alarms(bytes, reading) {
+    match reading {
         Ok(Some(Entry::Show)) => {
             let answer = *counts;
             writeln!(out, "{answer}")?;
@@ -148,15 +130,5 @@ mod tests {
             b"events 1 steps 0 readings\nevents 2 steps 1 readings\n",
             b"",
         )
-    }
-
-    #[test]
-    fn tells_alarms_as_unknown_names(rt: HostRuntime) -> Result<(), Fail> {
-        let input = b"alarm 1 56\n\talarm -1 0 # one\r\nalarm\nalarm 1\nalarm 1 +5\nalarms 1 5\n\
-            alarm 1 5 2\nstep\nshow\nalarm \0";
-        let faults = b"line 1: 'alarm' is no entry\nline 2: 'alarm' is no entry\n\
-            line 3: 'alarm' is no entry\nline 4: 'alarm' is no entry\nline 5: 'alarm' is no entry\n\
-            line 6: 'alarms' is no entry\nline 7: 'alarm' is no entry\nline 10: a byte that is no text\n";
-        check_follow(&rt, input, b"events 1 steps 0 readings\n", faults)
     }
 }

@@ -2,11 +2,11 @@
 use Rattle.std.specs.Prelude.{◌≡◌, ℕ, ◌^◌, Bool, true, false, List, [], length, ℤ, pos, negsuc, Some, None, Ok, Err, IsUtf8, Option, Result, MatchResult, nat_lt}
 use Rattle.refusal.specs.Order.{when}
 use Rattle.refusal.specs.declared.kinds.Refusal.{Refusal}
-use Rattle.text.specs.Lines.{Parses}
-use Rattle.text.specs.declared.error.LineError.{LineError}
-use Rattle.text.specs.declared.error.LineError.TheVariants.{NotText}
-use Rattle.text.specs.declared.entry.Entry.{Entry}
-use Rattle.text.specs.declared.entry.Entry.TheVariants.{Basins, Gauges, Wrong, Range, Rate, Gauge, Step, Read, Show, Alarm}
+use Rattle.entries.specs.Lines.{Parses}
+use Rattle.entries.specs.declared.error.LineError.{LineError}
+use Rattle.entries.specs.declared.error.LineError.TheVariants.{NotText}
+use Rattle.entries.specs.declared.entry.Entry.{Entry}
+use Rattle.entries.specs.declared.entry.Entry.TheVariants.{Basins, Gauges, Wrong, Range, Rate, Gauge, Step, Read, Show, Alarm}
 use Rattle.plant.specs.declared.kinds.Event.{Event}
 use Rattle.plant.specs.declared.kinds.Event.TheVariants as event
 use Rattle.plant.specs.Events.{event_refused}

@@ -1,7 +1,7 @@
 // Lines from any input, read and answered one by one.
 ghost use Rattle.std.specs.Prelude.{◌≡◌, true, IfOk, Err, IsUtf8, OnOk};
-ghost use Rattle.text.specs.declared.error.LineError.TheVariants.{NotText};
-ghost use Rattle.text.specs.Lines.{Parses};
+ghost use Rattle.entries.specs.declared.error.LineError.TheVariants.{NotText};
+ghost use Rattle.entries.specs.Lines.{Parses};
 ghost use Rattle.observe.specs.Counted.{Once, none};
 ghost use Rattle.observe.specs.Followed.{Entered, LineSays, Ready};
 
@@ -10,12 +10,12 @@ use crate::follower::{Follower, ends_plant};
 use crate::halt::Halt;
 use crate::kinds::{Answer, Stage};
 use draft::{PlantError, Stray};
+use entries::{Entry, LineError};
 use refusal::Refusal;
 use std::alloc::Global;
 use std::io;
 use std::io::{BufRead, BufReader, Read, Write};
 use table::Observer;
-use text::{Entry, LineError};
 
 // ---- what is printed: refusals and what is shown on `out`, what is wrong with a line on `err`
 
@@ -110,7 +110,7 @@ fn read_line(bytes: &[u8]) -> Result<Option<Entry>, LineError<'_>>
     ensures other { (IsUtf8 bytes.now → ⊥) → result ≡ Err NotText }
 {
     match std::str::from_utf8(bytes) {
-        Ok(line) => text::parse(line),
+        Ok(line) => entries::parse(line),
         Err(_) => Err(LineError::NotText),
     }
 }

@@ -7,7 +7,7 @@ use Rattle.std.proofs.lemmas.Fmt.{digits_decimal, digits_value-decimal, decimal_
 use Rattle.std.proofs.ByRecursion.{All-append, All-get_or, All-weaker}
 use Rattle.std.proofs.lemmas.Bool.Decides.{nat_tests}
 use Rattle.text.specs.declared.entry.Entry.{Entry}
-use Rattle.text.specs.declared.entry.Entry.TheVariants.{Basins, Gauges, Wrong, Range, Rate, Gauge, Step, Read, Show, Alarm}
+use Rattle.text.specs.declared.entry.Entry.TheVariants.{Basins, Gauges, Wrong, Range, Rate, Gauge, Step, Read, Show}
 use Rattle.text.specs.declared.error.Field.{Field}
 use Rattle.text.specs.declared.error.LineError.{LineError}
 use Rattle.text.specs.Faults as faults
@@ -26,7 +26,7 @@ named (k ∷ ks) w = cond (bytes_eq w k.0) (Some k.1) (named ks w)
 entry_of : List ℕ → List ℤ → Option Entry
 entry_of w [] = named ((codes "step", Step) ∷ (codes "show", Show) ∷ []) w
 entry_of w (a ∷ []) = named ((codes "basins", Basins a) ∷ (codes "gauges", Gauges a) ∷ (codes "wrong", Wrong a) ∷ []) w
-entry_of w (a ∷ b ∷ []) = named ((codes "alarm", Alarm a b) ∷ []) w
+entry_of w (a ∷ b ∷ []) = None
 entry_of w (a ∷ b ∷ c ∷ []) =
     named ((codes "range", Range a b c) ∷ (codes "rate", Rate a b c) ∷ (codes "gauge", Gauge a b c) ∷
     (codes "read", Read a b c) ∷ []) w
@@ -43,14 +43,12 @@ entry_back (Gauge g a b) = refl
 entry_back Step = refl
 entry_back (Read g l h) = refl
 entry_back Show = refl
-entry_back (Alarm b l) = refl
 
 -- how many numbers an entry of a name has
 count : List ℕ → ℕ
 count w =
     cond (bytes_eq w (codes "step")) 0 (cond (bytes_eq w (codes "show")) 0 (cond (bytes_eq w (codes "basins")) 1
-    (cond (bytes_eq w (codes "gauges")) 1 (cond (bytes_eq w (codes "wrong")) 1
-    (cond (bytes_eq w (codes "alarm")) 2 3)))))
+    (cond (bytes_eq w (codes "gauges")) 1 (cond (bytes_eq w (codes "wrong")) 1 3))))
 
 counted : (e : Entry) → (length (fields e) ≡ count (name e)) × (length (numbers e) ≡ count (name e))
 unfolding count
@@ -63,7 +61,6 @@ counted (Gauge g a b) = (refl, refl)
 counted Step = (refl, refl)
 counted (Read g l h) = (refl, refl)
 counted Show = (refl, refl)
-counted (Alarm b l) = (refl, refl)
 
 numbers_same : (ws : List (List ℕ)) (ys zs : List ℤ) → Numbers ws ys → Numbers ws zs → ys ≡ zs
 numbers_same [] [] [] h k = refl
@@ -208,7 +205,6 @@ name_marks (Gauge g a b) = (marks (codes "gauge") refl, lit< tt)
 name_marks Step = (marks (codes "step") refl, lit< tt)
 name_marks (Read g l h) = (marks (codes "read") refl, lit< tt)
 name_marks Show = (marks (codes "show") refl, lit< tt)
-name_marks (Alarm b l) = (marks (codes "alarm") refl, lit< tt)
 
 module _ (e : Entry) (fit : Fit e) where
   written_plain : AllByRecursion (λ c. 32 ≤ c) (written e)

@@ -6,14 +6,12 @@ use Rattle.text.specs.declared.error.Field.{Field}
 use Rattle.text.specs.declared.error.LineError.{LineError}
 use Rattle.text.specs.declared.kinds.Count.{Count}
 use Rattle.text.specs.declared.kinds.Count.TheVariants.{Basins, Gauges, Wrong}
-use Rattle.text.specs.declared.kinds.Pair.{Pair}
-use Rattle.text.specs.declared.kinds.Pair.TheVariants.{Alarm}
 use Rattle.text.specs.declared.kinds.Triple.{Triple}
 use Rattle.text.specs.declared.kinds.Triple.TheVariants.{Range, Rate, Gauge, Read}
 use Rattle.text.specs.declared.words.Words.{Words}
 use Rattle.text.specs.Numbers.{Number, Numbers}
 use Rattle.text.specs.Faults as faults
-use Rattle.text.specs.Kinds.{counted, count_field, paired, pair_fields, tripled, triple_fields}
+use Rattle.text.specs.Kinds.{counted, count_field, tripled, triple_fields}
 use Rattle.text.specs.Lines.{Names, Refuses, ReadAs, ByWords}
 use Rattle.text.specs.Reader.{left, last_of, Next, Takes, Holds, Fails}
 use Rattle.text.specs.Spelling.{name, numbers, fields}
@@ -25,23 +23,9 @@ holds_more s t z zs h k =
     subst (λ ws. Numbers ws (to_z w64 (of_z w64 z) ∷ zs)) (sym h.0)
     (subst (Number (last_of t)) (sym (to_z-of_z w64 z (record { sfits = h.1.fits }))) h.1, k)
 
--- the numbers as the code has them
-numbers_kept : (ws : List (List ℕ)) (z : ℤ) → Numbers ws (z ∷ []) → Numbers ws (to_z w64 (of_z w64 z) ∷ [])
-numbers_kept [] z h = absurd h
-numbers_kept (w ∷ ws) z h = (subst (Number w) (sym (to_z-of_z w64 z (record { sfits = h.0.fits }))) h.0, h.1)
-
-pub holds_last : (s : Words) (z : ℤ) → Holds s (z ∷ []) → Holds s (to_z w64 (of_z w64 z) ∷ [])
-holds_last s z h = numbers_kept (left s) z h
-
 pub fails_later : (s t : Words) (z : ℤ) (f : Field) (fs : List Field) (x : LineError) → Takes s t z
     → Fails t fs x → Fails s (f ∷ fs) x
 fails_later s t z f fs x h k = subst (λ ws. faults.Wrong (last_of s) (f ∷ fs) ws x) (sym h.0) (inr ((z, h.1), k))
-
--- an error is handed on as it is
-pub number_fails : (r : Result ℤ LineError) (s : Words) (f : Field) (x : LineError) → IsErrAnd r (λ y. y ≡ x)
-    → Fails s (f ∷ []) x → MatchResult r (λ z. Holds s (z ∷ [])) (Fails s (f ∷ []))
-number_fails (Ok z) s f x h k = absurd h
-number_fails (Err y) s f x h k = subst (Fails s (f ∷ [])) (sym h) k
 
 -- the entry of a kind: its name, its numbers and its fields
 count_name : (k : Count) (m n : ℤ) → name (counted k m) ≡ name (counted k n)
@@ -58,18 +42,6 @@ fields_of_count : (k : Count) (n : ℤ) → fields (counted k n) ≡ count_field
 fields_of_count Basins n = refl
 fields_of_count Gauges n = refl
 fields_of_count Wrong n = refl
-
-abbrev both : Field × Field → List Field
-both fs = fs.0 ∷ fs.1 ∷ []
-
-pair_name : (k : Pair) (a b x y : ℤ) → name (paired k a b) ≡ name (paired k x y)
-pair_name Alarm a b x y = refl
-
-pair_numbers : (k : Pair) (a b : ℤ) → numbers (paired k a b) ≡ a ∷ b ∷ []
-pair_numbers Alarm a b = refl
-
-fields_of_pair : (k : Pair) (a b : ℤ) → fields (paired k a b) ≡ both (pair_fields k)
-fields_of_pair Alarm a b = refl
 
 abbrev listed : Field × Field × Field → List Field
 listed fs = fs.0 ∷ fs.1 ∷ fs.2 ∷ []
@@ -92,6 +64,7 @@ fields_of_triple Rate a b c = refl
 fields_of_triple Gauge a b c = refl
 fields_of_triple Read a b c = refl
 
+-- an error is handed on as it is
 read_fails : (r : Result Entry LineError) (s : Words) (d : Entry) (fs : List Field) (x : LineError)
     → IsErrAnd r (λ y. y ≡ x) → fields d ≡ fs → Fails s fs x → ReadAs s d r
 read_fails (Ok v) s d fs x h e k = absurd h
@@ -106,17 +79,6 @@ module _ (s : Words) (k : Count) where
   pub count_holds : (e : Entry) (n : ℤ) → e ≡ counted k n → Holds s (n ∷ []) → ReadAs s (counted k (pos 0)) (Ok e)
   count_holds e n p h =
       (ap name p ∙ count_name k n (pos 0), subst (Holds s) (sym (ap numbers p ∙ count_numbers k n)) h)
-
-module _ (s : Words) (k : Pair) where
-  pub pair_fails : (r : Result Entry LineError) (fs : Field × Field) (x : LineError)
-      → fs ≡ pair_fields k → IsErrAnd r (λ y. y ≡ x) → Fails s (both fs) x
-      → ReadAs s (paired k (pos 0) (pos 0)) r
-  pair_fails r fs x e h w = read_fails r s _ (both fs) x h (fields_of_pair k (pos 0) (pos 0) ∙ ap both (sym e)) w
-
-  pub pair_holds : (e : Entry) (a b : ℤ) → e ≡ paired k a b → Holds s (a ∷ b ∷ [])
-      → ReadAs s (paired k (pos 0) (pos 0)) (Ok e)
-  pair_holds e a b p h =
-      (ap name p ∙ pair_name k a b (pos 0) (pos 0), subst (Holds s) (sym (ap numbers p ∙ pair_numbers k a b)) h)
 
 module _ (s : Words) (k : Triple) where
   pub triple_fails : (r : Result Entry LineError) (fs : Field × Field × Field) (x : LineError)

@@ -6,8 +6,6 @@ use Rattle.text.specs.declared.error.Field.{Field}
 use Rattle.text.specs.declared.error.Field.TheVariants as field
 use Rattle.text.specs.declared.kinds.Count.{Count}
 use Rattle.text.specs.declared.kinds.Count.TheVariants.{Basins, Gauges, Wrong}
-use Rattle.text.specs.declared.kinds.Pair.{Pair}
-use Rattle.text.specs.declared.kinds.Pair.TheVariants.{Alarm}
 use Rattle.text.specs.declared.kinds.Triple.{Triple}
 use Rattle.text.specs.declared.kinds.Triple.TheVariants.{Range, Rate, Gauge, Read}
 
@@ -21,12 +19,6 @@ abbrev pub count_field : Count → Field
 count_field Basins = field.Basins
 count_field Gauges = field.Gauges
 count_field Wrong = field.Wrong
-
-abbrev pub paired : Pair → ℤ → ℤ → Entry
-paired Alarm a b = entry.Alarm a b
-
-abbrev pub pair_fields : Pair → Field × Field
-pair_fields Alarm = (field.Basin, field.Limit)
 
 abbrev pub tripled : Triple → ℤ → ℤ → ℤ → Entry
 tripled Range a b c = entry.Range a b c

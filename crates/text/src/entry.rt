@@ -15,7 +15,6 @@ pub enum Entry {
     Step,
     Read { gauge: i64, low: i64, high: i64 },
     Show,
-    Alarm { basin: i64, limit: i64 },
 }
 
 impl fmt::Display for Entry {
@@ -36,7 +35,6 @@ impl fmt::Display for Entry {
             Entry::Step => write!(f, "step"),
             Entry::Read { gauge, low, high } => write!(f, "read {gauge} {low} {high}"),
             Entry::Show => write!(f, "show"),
-            Entry::Alarm { basin, limit } => write!(f, "alarm {basin} {limit}"),
         }
     }
 }

@@ -17,7 +17,6 @@ pub enum Field {
     Second,
     Low,
     High,
-    Limit,
 }
 
 impl fmt::Display for Field {
@@ -36,7 +35,6 @@ impl fmt::Display for Field {
             Field::Second => "the second basin",
             Field::Low => "the low value",
             Field::High => "the high value",
-            Field::Limit => "the limit",
         };
         write!(f, "{name}")
     }

@@ -1,6 +1,6 @@
 // The entries that have numbers, by how many they have.
 ghost use Rattle.std.specs.Prelude.{◌≡◌};
-ghost use Rattle.text.specs.Kinds.{counted, count_field, paired, pair_fields, tripled, triple_fields};
+ghost use Rattle.text.specs.Kinds.{counted, count_field, tripled, triple_fields};
 
 use crate::entry::Entry;
 use crate::error::Field;
@@ -31,30 +31,6 @@ impl Count {
             Count::Basins => Entry::Basins(count),
             Count::Gauges => Entry::Gauges(count),
             Count::Wrong => Entry::Wrong(count),
-        }
-    }
-}
-
-// Entries of two numbers.
-#[derive(Clone, Copy)]
-pub enum Pair {
-    Alarm,
-}
-
-impl Pair {
-    pub fn fields(self) -> (Field, Field)
-        ensures { result ≡ pair_fields self }
-    {
-        match self {
-            Pair::Alarm => (Field::Basin, Field::Limit),
-        }
-    }
-
-    pub fn entry(self, a: i64, b: i64) -> Entry
-        ensures { result ≡ paired self a b }
-    {
-        match self {
-            Pair::Alarm => Entry::Alarm { basin: a, limit: b },
         }
     }
 }

@@ -162,27 +162,4 @@ mod tests {
         assert_eq!(rt; Entry::Show.to_string(rt.alloc())?.as_str(), "show");
         Ok(())
     }
-
-    #[test]
-    fn reads_and_writes_an_alarm(rt: HostRuntime) -> Result<(), Fail> {
-        let alarm = Entry::Alarm {
-            basin: 2,
-            limit: -250,
-        };
-        assert_eq!(rt; parse("alarm 2 -250")?, Some(alarm));
-        assert_eq!(rt; alarm.to_string(rt.alloc())?.as_str(), "alarm 2 -250");
-        let table = [
-            ("alarm", "the basin is missing after 'alarm'"),
-            ("alarm 1", "the limit is missing after '1'"),
-            ("alarm 1 +5", "the limit is no number: '+5'"),
-            ("alarm 1 50 2", "'2' is one word too many"),
-        ];
-        for (line, message) in table {
-            match parse(line) {
-                Ok(_) => return Err(Fail::new(line)),
-                Err(fault) => assert_eq!(rt; fault.to_string(rt.alloc())?.as_str(), message),
-            }
-        }
-        Ok(())
-    }
 }

@@ -1,13 +1,12 @@
 // An entry from the words of a line.
-ghost use Rattle.std.specs.Prelude.{◌≡◌, [], ◌∷◌, pos, MatchResult};
-ghost use Rattle.text.specs.Kinds.{counted, paired, tripled};
+ghost use Rattle.std.specs.Prelude.{◌≡◌, [], pos, MatchResult};
+ghost use Rattle.text.specs.Kinds.{counted, tripled};
 ghost use Rattle.text.specs.Lines.{Names, Refuses, ReadAs};
-ghost use Rattle.text.specs.Reader.{Holds, Fails};
 ghost use Rattle.text.specs.Spelling.{numbers, fields as fields_of};
 
 use crate::entry::Entry;
-use crate::error::{Field, LineError};
-use crate::kinds::{Count, Pair, Triple};
+use crate::error::LineError;
+use crate::kinds::{Count, Triple};
 use crate::words::Words;
 
 fn bare<'a>(mut words: Words<'a>, entry: Entry) -> Result<Entry, LineError<'a>>
@@ -18,29 +17,12 @@ fn bare<'a>(mut words: Words<'a>, entry: Entry) -> Result<Entry, LineError<'a>>
     Ok(entry)
 }
 
-// The one number that is left.
-fn last_number<'a>(mut words: Words<'a>, field: Field) -> Result<i64, LineError<'a>>
-    ensures { MatchResult result (λ z. Holds words.entry (z ∷ [])) (Fails words.entry (field ∷ [])) }
-{
-    let number = words.number(field)?;
-    words.end()?;
-    Ok(number)
-}
-
-fn one<'a>(words: Words<'a>, kind: Count) -> Result<Entry, LineError<'a>>
+fn one<'a>(mut words: Words<'a>, kind: Count) -> Result<Entry, LineError<'a>>
     ensures { ReadAs words.entry (counted kind (pos 0)) result }
 {
-    let count = last_number(words, kind.field())?;
+    let count = words.number(kind.field())?;
+    words.end()?;
     Ok(kind.entry(count))
-}
-
-fn two<'a>(mut words: Words<'a>, kind: Pair) -> Result<Entry, LineError<'a>>
-    ensures { ReadAs words.entry (paired kind (pos 0) (pos 0)) result }
-{
-    let (a, b) = kind.fields();
-    let first = words.number(a)?;
-    let second = last_number(words, b)?;
-    Ok(kind.entry(first, second))
 }
 
 fn three<'a>(mut words: Words<'a>, kind: Triple) -> Result<Entry, LineError<'a>>
@@ -49,7 +31,8 @@ fn three<'a>(mut words: Words<'a>, kind: Triple) -> Result<Entry, LineError<'a>>
     let (a, b, c) = kind.fields();
     let first = words.number(a)?;
     let second = words.number(b)?;
-    let third = last_number(words, c)?;
+    let third = words.number(c)?;
+    words.end()?;
     Ok(kind.entry(first, second, third))
 }
 
@@ -67,7 +50,6 @@ pub fn entry<'a>(words: Words<'a>) -> Result<Entry, LineError<'a>>
         "step" => bare(words, Entry::Step),
         "read" => three(words, Triple::Read),
         "show" => bare(words, Entry::Show),
-        "alarm" => two(words, Pair::Alarm),
         word => Err(LineError::Unknown { word }),
     }
 }

@@ -1,5 +1,5 @@
 use Rattle.std.proofs.Common.{pos}
-use Rattle.text.specs.declared.entry.Entry.TheVariants.{Basins, Gauges, Wrong, Range, Rate, Gauge, Step, Read, Show, Alarm}
+use Rattle.text.specs.declared.entry.Entry.TheVariants.{Basins, Gauges, Wrong, Range, Rate, Gauge, Step, Read, Show}
 use Rattle.text.proofs.Steps.{named_as}
 use Rattle.text.proofs.reader.entry.Goals as goal
 
@@ -29,6 +29,3 @@ returns-in-read c = named_as c.args.words (Read (pos 0) (pos 0) (pos 0)) _ c.in-
 
 pub returns-in-show : goal.returns-in-show
 returns-in-show c = named_as c.args.words Show _ c.in-show.is c.bare-in-show.ensures
-
-pub returns-in-alarm : goal.returns-in-alarm
-returns-in-alarm c = named_as c.args.words (Alarm (pos 0) (pos 0)) _ c.in-alarm.is c.two.ensures

@@ -2,16 +2,28 @@ use Rattle.std.proofs.Common.{List, [], ◌∷◌, w64, to_z, of_z}
 use Rattle.text.specs.declared.error.Field.{Field}
 use Rattle.text.specs.declared.error.LineError.{LineError}
 use Rattle.text.specs.Reader.{Fails}
-use Rattle.text.proofs.Steps.{holds_more, holds_last, fails_later, triple_fails, triple_holds}
+use Rattle.text.proofs.Steps.{holds_more, fails_later, triple_fails, triple_holds}
 use Rattle.text.proofs.reader.three.Goals as goal
-use Rattle.text.proofs.reader.three.Goals.{In_ok-first}
+use Rattle.text.proofs.reader.three.Goals.{In_ok-first, In_ok-second, In_ok-third}
 
--- what is wrong after the first number
+-- what is wrong after the first, the second and the third number
 after_first : (c : In_ok-first) (fs : List Field) (x : LineError) → Fails c.number.new.self fs x
     → Fails c.args.words (c.fields-a.result.0 ∷ fs) x
 after_first c fs x =
     fails_later c.args.words c.number.new.self c.in_ok-first.first c.fields-a.result.0 fs x
     c.in_ok-first.ensures
+
+after_second : (c : In_ok-second) (fs : List Field) (x : LineError) → Fails c.number-2.new.self fs x
+    → Fails c.number.new.self (c.fields-a.result.1 ∷ fs) x
+after_second c fs x =
+    fails_later c.number.new.self c.number-2.new.self c.in_ok-second.second c.fields-a.result.1 fs x
+    c.in_ok-second.ensures
+
+after_third : (c : In_ok-third) (fs : List Field) (x : LineError) → Fails c.number-3.new.self fs x
+    → Fails c.number-2.new.self (c.fields-a.result.2 ∷ fs) x
+after_third c fs x =
+    fails_later c.number-2.new.self c.number-3.new.self c.in_ok-third.third c.fields-a.result.2 fs x
+    c.in_ok-third.ensures
 
 pub returns-in_err-first : goal.returns-in_err-first
 returns-in_err-first c =
@@ -31,10 +43,20 @@ pub returns-in_err-third : goal.returns-in_err-third
 returns-in_err-third c =
     let fs = c.fields-a.result in
     let x = c.in_err-third.field-0.0 in
+    let at = goal.at.returns-in_err-third c in
     triple_fails c.args.words c.args.kind _ fs x c.fields-a.ensures c.from_residual-in_err-third.ensures.1
-    (after_first (goal.at.returns-in_err-third c).In_ok-first (fs.1 ∷ fs.2 ∷ []) x
-    (fails_later c.number.new.self c.number-2.new.self c.in_ok-second.second fs.1 (fs.2 ∷ []) x
-    c.in_ok-second.ensures c.in_err-third.ensures))
+    (after_first at.In_ok-first (fs.1 ∷ fs.2 ∷ []) x
+    (after_second at.In_ok-second (fs.2 ∷ []) x (c.in_err-third.ensures [])))
+
+pub returns-in_err-end : goal.returns-in_err-end
+returns-in_err-end c =
+    let fs = c.fields-a.result in
+    let x = c.in_err-end.field-0.0 in
+    let at = goal.at.returns-in_err-end c in
+    triple_fails c.args.words c.args.kind _ fs x c.fields-a.ensures c.from_residual-in_err-end.ensures.1
+    (after_first at.In_ok-first (fs.1 ∷ fs.2 ∷ []) x
+    (after_second at.In_ok-second (fs.2 ∷ []) x
+    (after_third at.In_ok-third [] x c.in_err-end.ensures)))
 
 pub returns : goal.returns
 returns c =
@@ -45,4 +67,5 @@ returns c =
     (to_z w64 (of_z w64 second) ∷ to_z w64 (of_z w64 third) ∷ []) c.in_ok-first.ensures
     (holds_more c.number.new.self c.number-2.new.self second
     (to_z w64 (of_z w64 third) ∷ []) c.in_ok-second.ensures
-    (holds_last c.number-2.new.self third c.in_ok-third.ensures)))
+    (holds_more c.number-2.new.self c.number-3.new.self third []
+    c.in_ok-third.ensures c.in_ok-end.ensures)))

@@ -1,6 +1,6 @@
 use Rattle.std.proofs.Common.{[], ◌∷◌, w64, to_z, of_z}
-use Rattle.text.proofs.Steps.{holds_more, holds_last, fails_later, pair_fails, pair_holds}
-use Rattle.text.proofs.reader.two.Goals as goal
+use Rattle.entries.proofs.Steps.{holds_more, holds_last, fails_later, pair_fails, pair_holds}
+use Rattle.entries.proofs.reader.two.Goals as goal
 
 pub returns-in_err-first : goal.returns-in_err-first
 returns-in_err-first c =

@@ -1,6 +1,6 @@
 use Rattle.std.proofs.Common.{[]}
-use Rattle.text.proofs.Steps.{holds_more, fails_later, number_fails}
-use Rattle.text.proofs.reader.last_number.Goals as goal
+use Rattle.entries.proofs.Steps.{holds_more, fails_later, number_fails}
+use Rattle.entries.proofs.reader.last_number.Goals as goal
 
 pub returns-in_err-number : goal.returns-in_err-number
 returns-in_err-number c =

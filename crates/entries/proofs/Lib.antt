@@ -1,0 +1,4 @@
+pub mod Splits
+pub mod Values
+pub mod Steps
+pub mod Readings
