@@ -10,7 +10,7 @@ use Rattle.zones.specs.declared.kinds.Range.{Range}
 use Rattle.zones.specs.declared.kinds.Rate.{Rate}
 use Rattle.zones.specs.declared.kinds.Reading.{Reading}
 use Rattle.zones.specs.Numbers.{zone_of, no_levels, AllSized}
-use Rattle.zones.specs.Change.{ranges_of, rates_of, reading_of, reach, Roof, Starts, Steps, Reads}
+use Rattle.zones.specs.Change.{ranges_of, rates_of, reading_of, step_reach, Roof, Starts, StepsFar, ReadsFar}
 use Rattle.zones.proofs.Closing.{no_levels_empty}
 use Rattle.zones.proofs.Stepping.{roof_sized}
 use Rattle.faults.specs.declared.set.FaultSet.{FaultSet}
@@ -29,9 +29,9 @@ follows_start n rs w ys s = record {
 module _ (n k : ℕ) (start : Ranges) (w : history.FaultSet) (es : List history.Event) (xs ys : List ℤ)
     (f : Follows n k start w es xs) (few : k ≤ 1000000) where
   -- within reach
-  sized : Canonical n (zone_of n xs) → Roof (100000 + 10000 * k) n xs → AllSized reach n xs
+  sized : Canonical n (zone_of n xs) → Roof (100000 + 10000 * k) n xs → AllSized step_reach n xs
   sized ca ro i j hi hj =
-      sized_more (100000 + 10000 * k) reach (zone_of n xs i j) (omega arith)
+      sized_more (100000 + 10000 * k) step_reach (zone_of n xs i j) (omega arith)
       (roof_sized (100000 + 10000 * k) n xs ca ro i j hi hj)
 
   -- without levels
@@ -43,21 +43,21 @@ module _ (n k : ℕ) (start : Ranges) (w : history.FaultSet) (es : List history.
       (kept_empty n start w es (zone_of n xs) f.kept e (none_in p))
 
   -- ---- a step
-  pub follows_step : (rs : List Rate) → Steps n rs xs ys → Follows n (k + 1) start w (history.step (rates_of rs) ∷ es) ys
+  pub follows_step : (rs : List Rate) → StepsFar n rs xs ys → Follows n (k + 1) start w (history.step (rates_of rs) ∷ es) ys
   follows_step rs s = go f.rest
     where
       go : AtRest n k xs → Follows n (k + 1) start w (history.step (rates_of rs) ∷ es) ys
       go (inl e) = record { rest = inl (s.empty e); kept = still_none (history.step (rates_of rs)) e (s.empty e) }
       go (inr (ca, ro)) =
-          let left = s.exact ca (sized ca ro) in
           let high = s.roof (100000 + 10000 * k) (omega arith) ca ro in
           record {
-            rest = inr (left.0, subst (λ h. Roof h n ys) (omega arith) high);
-            kept = kept_step n start w es (zone_of n xs) f.kept (zone_of n ys) (rates_of rs) (inl left.0) s.sound left.1;
+            rest = inr (high.0, subst (λ h. Roof h n ys) (omega arith) high.1);
+            kept = kept_step n start w es (zone_of n xs) f.kept (zone_of n ys) (rates_of rs) (inl high.0) s.sound
+                (s.exact (sized ca ro)).1;
           }
 
   -- ---- a reading
-  pub follows_read : (r : Reading) (a : ℕ) → w a ≡ false → Reads n r xs ys →
+  pub follows_read : (r : Reading) (a : ℕ) → w a ≡ false → ReadsFar n r xs ys →
       Follows n k start w (history.reads (reading_of a r) ∷ es) ys
   follows_read r a e s = go f.rest s.form
     where
@@ -67,7 +67,7 @@ module _ (n k : ℕ) (start : Ranges) (w : history.FaultSet) (es : List history.
           (λ x. (s.levels a x).0) (λ x. (s.levels a x).1)
 
       go : AtRest n k xs →
-          (ys ≡ no_levels n) ⊎ ((AllSized reach n xs → Canonical n (zone_of n ys)) × ((h : ℕ) → Roof h n xs → Roof h n ys)) →
+          (ys ≡ no_levels n) ⊎ ((AllSized step_reach n xs → Canonical n (zone_of n ys)) × ((h : ℕ) → Roof h n xs → Roof h n ys)) →
           Follows n k start w (history.reads (reading_of a r) ∷ es) ys
       go rest (inl none) = record {
         rest = inl none;

@@ -7,7 +7,7 @@ use Rattle.std.proofs.lemmas.Bool.{cases_order, cases_eq, both_ways}
 use Rattle.std.proofs.lemmas.Bool.Decides.{nat_tests}
 use Rattle.refusal.specs.Order.{or_else}
 use Rattle.zones.specs.Checks.{size_refused}
-use Rattle.zones.specs.Change.{Reads}
+use Rattle.zones.specs.Change.{ReadsFar}
 use Rattle.zones.specs.declared.kinds.Reading.{Reading}
 use Rattle.faults.specs.declared.set.FaultSet.{FaultSet}
 use Rattle.faults.specs.Sets.{gauge_set}
@@ -88,7 +88,7 @@ taken_both a b x e f g = grind arith
 
 -- ---- a reading counts, or not
 module _ (n : ℕ) (r : Reading) (a : ℕ) (s : FaultSet) (xs ys : List ℤ) where
-  pub heeds_trusted : gauge_set s a ≡ false → Reads n r xs ys → Heeds n r a s xs ys
+  pub heeds_trusted : gauge_set s a ≡ false → ReadsFar n r xs ys → Heeds n r a s xs ys
   heeds_trusted e p = record { blamed = λ f. absurd (both_ways _ e f); trusted = λ _. p }
 
   pub heeds_blamed : gauge_set s a ≡ true → ys ≡ xs → Heeds n r a s xs ys

@@ -7,7 +7,7 @@ use Rattle.refusal.specs.declared.kinds.Refusal.TheVariants.{Length}
 use Rattle.zones.specs.declared.kinds.Range.{Range}
 use Rattle.zones.specs.declared.kinds.Rate.{Rate}
 use Rattle.zones.specs.declared.kinds.Reading.{Reading}
-use Rattle.zones.specs.Change.{Starts, Steps, Reads}
+use Rattle.zones.specs.Change.{Starts, StepsFar, ReadsFar}
 use Rattle.faults.specs.declared.set.FaultSet.{FaultSet}
 use Rattle.faults.specs.Sets.{gauge_set}
 
@@ -32,12 +32,12 @@ abbrev pub AllStart : ℕ → List Range → ℕ → List ℤ → Type 0
 AllStart n rs m ys = (k : ℕ) → k < m → Starts n rs (part n k ys)
 
 abbrev pub AllStep : ℕ → List Rate → ℕ → List ℤ → List ℤ → Type 0
-AllStep n rs m xs ys = (k : ℕ) → k < m → Steps n rs (part n k xs) (part n k ys)
+AllStep n rs m xs ys = (k : ℕ) → k < m → StepsFar n rs (part n k xs) (part n k ys)
 
 -- A reading of gauge a counts for nothing in a set that has the gauge; else it leaves the levels at which it is right.
 pub record Heeds (n : ℕ) (r : Reading) (a : ℕ) (s : FaultSet) (xs ys : List ℤ) : Type 0 where
   pub blamed : gauge_set s a ≡ true → ys ≡ xs
-  pub trusted : gauge_set s a ≡ false → Reads n r xs ys
+  pub trusted : gauge_set s a ≡ false → ReadsFar n r xs ys
 
 abbrev pub AllRead : ℕ → Reading → ℕ → List FaultSet → List ℤ → List ℤ → Type 0
 AllRead n r a sets xs ys =

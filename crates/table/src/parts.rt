@@ -1,6 +1,6 @@
 // One zone of the table: a part of the numbers, lent on to be written.
 ghost use Rattle.std.specs.Prelude.{◌≡◌, ◌+◌, ◌*◌, ◌≤◌, length};
-ghost use Rattle.zones.specs.Says.{FirstSays, MeetSays, StepSays};
+ghost use Rattle.zones.specs.Says.{FirstSays, MeetSaysFar, StepSaysFar};
 ghost use Rattle.table.specs.Parts.{Only, part, size};
 
 use refusal::Refusal;
@@ -30,7 +30,7 @@ pub(crate) fn step_part(
 ) -> Result<(), Refusal>
     requires few { basins ≤ 8 }
     requires there { (place + 1) * size basins ≤ length table.old }
-    ensures zone { StepSays basins rates.now (part basins place table.old) result
+    ensures zone { StepSaysFar basins rates.now (part basins place table.old) result
         (part basins place table.new) }
     ensures only { Only basins place table.old table.new }
 {
@@ -46,7 +46,7 @@ pub(crate) fn read_part(
 ) -> Result<(), Refusal>
     requires few { basins ≤ 8 }
     requires there { (place + 1) * size basins ≤ length table.old }
-    ensures zone { MeetSays basins reading (part basins place table.old) result
+    ensures zone { MeetSaysFar basins reading (part basins place table.old) result
         (part basins place table.new) }
     ensures only { Only basins place table.old table.new }
 {

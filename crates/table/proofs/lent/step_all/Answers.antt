@@ -1,5 +1,5 @@
 use Rattle.std.proofs.Common.{◌+◌, ◌*◌, ◌≤◌, length, arith}
-use Rattle.zones.specs.Change.{Steps}
+use Rattle.zones.specs.Change.{StepsFar}
 use Rattle.zones.specs.Checks.{rate_refused, size_refused}
 use Rattle.table.specs.Parts.{part, size}
 use Rattle.table.proofs.Parting.{going_more, part_length, part_within, size_taken, taken_both}
@@ -23,5 +23,5 @@ returns-in_err-step_part c =
 
 pub loop-place-preserved : goal.loop-place-preserved
 loop-place-preserved c =
-    going_more c.args.basins (λ _ xs ys. Steps c.args.basins c.args.rates.now xs ys) c.loop-place.place c.args.table.now c.loop-place.table _ c.loop-place.invariant
+    going_more c.args.basins (λ _ xs ys. StepsFar c.args.basins c.args.rates.now xs ys) c.loop-place.place c.args.table.now c.loop-place.table _ c.loop-place.invariant
     c.in_ok-step_part.ensures.zone.1 c.in_ok-step_part.ensures.only

@@ -1,5 +1,5 @@
 use Rattle.std.proofs.Common.{sym, ◌∙◌, subst}
-use Rattle.zones.specs.Says.{MeetSays}
+use Rattle.zones.specs.Says.{MeetSaysFar}
 use Rattle.table.specs.Parts.{part}
 use Rattle.table.proofs.Parting.{part_length, part_put, only_put}
 use Rattle.table.proofs.parts.read_part.Goals as goal
@@ -13,7 +13,7 @@ returns c =
     let zs = c.meet.new.zone in
     let long = c.meet.auto.zone ∙ part_length n k xs c.requires.there in
     record {
-      zone = subst (MeetSays n c.args.reading (part n k xs) c.meet.result)
-          (sym (part_put n k xs c.requires.there zs long)) c.meet.ensures.said;
+      zone = subst (MeetSaysFar n c.args.reading (part n k xs) c.meet.result)
+          (sym (part_put n k xs c.requires.there zs long)) c.meet.ensures.far;
       only = only_put n k xs c.requires.there zs long;
     }
