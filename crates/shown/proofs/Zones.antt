@@ -1,6 +1,5 @@
 -- The zones of a table as a list, and what is counted over it. Assumes nothing.
 use Rattle.std.proofs.Common.{◌≡◌, ℕ, zero, suc, ◌+◌, ◌*◌, ◌<◌, ◌≤◌, Bool, true, false, cond, not, ◌&&◌, ◌||◌, ltb, List, [], ◌∷◌, ◌++◌, map, length, take, drop, get_or, ℤ, pos, Some, None, vec_items, Option, sym, refl, ap, ◌∙◌, arith, rules}
-use lib.Signed.{lt_z}
 use Rattle.std.proofs.lemmas.List.{append-nil, map-append, take_at, drop_at, drop-drop, length-drop, length-append}
 use Rattle.std.proofs.lemmas.List.Elements.{filter-append}
 use Rattle.std.proofs.lemmas.List.Folds.{list_all-append}
@@ -19,7 +18,7 @@ use Rattle.faults.specs.declared.set.FaultSet.{FaultSet}
 use Rattle.faults.specs.Sets.{gauge_set}
 use Rattle.table.specs.declared.state.Observer.{Observer}
 use Rattle.table.specs.Parts.{part, size}
-use Rattle.shown.specs.Computed.{lacks_levels, without_levels, larger, largest, all_without, in_each, in_each_of}
+use Rattle.shown.specs.Computed.{lacks_levels, larger, largest, all_without, in_each, in_each_of}
 
 pub larger_none : (o : Option ℤ) → larger o None ≡ o
 larger_none None = refl
@@ -80,10 +79,6 @@ module _ (n : ℕ) where
   zones_more m xs =
       cut_more (size n) m xs ∙ ap (λ k. cut (size n) m xs ++ (take k (drop (m * size n) xs) ∷ [])) (omega arith)
 
-  lacks_is : (m : ℕ) (xs : List ℤ) → without_levels n xs m ≡ lacks_levels (part n m xs)
-  unfolding cell
-  lacks_is m xs = ap (λ k. lt_z (get_or (part n m xs) k (pos 0)) (pos 0)) (omega arith)
-
   -- ---- the largest number
   module _ (i j : ℕ) where
     abbrev pub number : List ℤ → ℤ
@@ -105,8 +100,7 @@ module _ (n : ℕ) where
     unfolding cell
     largest_listed zero xs = refl
     largest_listed (suc m) xs =
-        ap (λ b. larger (largest n xs i j m) (cond b None (Some (number (part n m xs))))) (lacks_is m xs)
-        ∙ go (lacks_levels (part n m xs)) refl (largest_listed m xs)
+        go (lacks_levels (part n m xs)) refl (largest_listed m xs)
         ∙ sym (ap (λ zs. reduce int_max (numbers zs)) (zones_more m xs)
         ∙ ap (reduce int_max) (numbers_push (cut (size n) m xs) (part n m xs)))
       where
@@ -132,8 +126,7 @@ module _ (n : ℕ) where
   all_without_listed (suc m) xs =
       let zones = cut (size n) m xs in
       let zone = part n m xs in
-      ap (λ b. all_without n xs m && b) (lacks_is m xs)
-      ∙ ap (λ b. b && lacks_levels zone) (all_without_listed m xs)
+      ap (λ b. b && lacks_levels zone) (all_without_listed m xs)
       ∙ sym (ap (list_all lacks_levels) (zones_more m xs) ∙ list_all-push lacks_levels zones zone)
 
 -- ---- the gauges in each set
@@ -165,8 +158,7 @@ module _ (a : ℕ) where
       let zones = cut (size n) m xs in
       let zone = part n m xs in
       let pushed = zip_push sets zones zone m d (length-cut (size n) m xs) (omega arith) in
-      ap (λ b. in_each n sets xs a m && (b || gauge_set (get_or sets m d) a)) (lacks_is n m xs)
-      ∙ ap (λ b. b && counts (get_or sets m d, zone)) (in_each_listed n sets xs m (omega arith))
+      ap (λ b. b && counts (get_or sets m d, zone)) (in_each_listed n sets xs m (omega arith))
       ∙ sym (ap (λ zs. list_all counts (zip sets zs)) (zones_more n m xs) ∙ ap (list_all counts) pushed
       ∙ list_all-push counts (zip sets zones) (get_or sets m d, zone))
 

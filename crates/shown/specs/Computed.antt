@@ -19,7 +19,7 @@ lacks_levels zone = int_lt (slice_index_or zone 0 (pos 0)) (pos 0)
 
 -- The zone at place k has none.
 abbrev pub without_levels : ℕ → List ℤ → ℕ → Bool
-without_levels n xs k = int_lt (cell n (part n k xs) 0 0) (pos 0)
+without_levels n xs k = lacks_levels (part n k xs)
 
 -- The larger of two, if any.
 abbrev pub larger : Option ℤ → Option ℤ → Option ℤ

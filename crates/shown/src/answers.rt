@@ -83,12 +83,12 @@ pub fn answer(observer: &Observer, request: Request) -> Result<Answer, Refusal>
     ensures { ObservedSays observer.now request result }
 {
     match request {
-        Request::Basin(basin) => Ok(Answer::Span(basin_span(observer, basin)?)),
+        Request::Basin(basin) => basin_span(observer, basin).map(Answer::Span),
         Request::Difference(first, second) => {
-            Ok(Answer::Span(difference_span(observer, first, second)?))
+            difference_span(observer, first, second).map(Answer::Span)
         }
         Request::Names => Ok(Answer::Names(names(observer))),
-        Request::Alarm(basin, limit) => Ok(Answer::Alarm(alarm(observer, basin, limit)?)),
+        Request::Alarm(basin, limit) => alarm(observer, basin, limit).map(Answer::Alarm),
     }
 }
 

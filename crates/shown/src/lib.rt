@@ -29,6 +29,10 @@ mod tests {
         Event::Reading(GaugeReading { gauge, low, high })
     }
 
+    fn gauge(first: u8, second: u8) -> Gauge {
+        Gauge { first, second }
+    }
+
     // Basins with the same range and the same rates.
     fn plant(
         heap: Global,
@@ -38,35 +42,15 @@ mod tests {
         gauges: &[Gauge],
         wrong: u32,
     ) -> Result<Plant, Fail> {
-        let mut ranges = Vec::new(heap);
-        let mut rates = Vec::new(heap);
-        let mut places = Vec::new(heap);
-        for _ in 0..basins {
-            ranges.push(Range { least: 0, most })?;
-            rates.push(rate)?;
-        }
-        for gauge in gauges {
-            places.push(*gauge)?;
-        }
+        let ranges = vec![in heap; Range { least: 0, most }; basins as usize]?;
+        let rates = vec![in heap; rate; basins as usize]?;
+        let places = gauges.to_vec(heap)?;
         Ok(Plant::new(basins, wrong, ranges, rates, places)?)
     }
 
     // Two basins, 0 to 100, rise 3, fall 2; gauges at the first, at the second and at both; one may be wrong.
     fn two_basins(heap: Global) -> Result<Plant, Fail> {
-        let gauges = [
-            Gauge {
-                first: 1,
-                second: 0,
-            },
-            Gauge {
-                first: 2,
-                second: 0,
-            },
-            Gauge {
-                first: 1,
-                second: 2,
-            },
-        ];
+        let gauges = [gauge(1, 0), gauge(2, 0), gauge(1, 2)];
         plant(heap, 2, 100, Rate { rise: 3, fall: 2 }, &gauges, 1)
     }
 
@@ -160,24 +144,7 @@ mod tests {
     // and the one between both that the first is 20 above it, so that 90 is possible.
     #[test]
     fn frozen_gauges(rt: HostRuntime) -> Result<(), Fail> {
-        let gauges = [
-            Gauge {
-                first: 1,
-                second: 0,
-            },
-            Gauge {
-                first: 1,
-                second: 0,
-            },
-            Gauge {
-                first: 2,
-                second: 0,
-            },
-            Gauge {
-                first: 1,
-                second: 2,
-            },
-        ];
+        let gauges = [gauge(1, 0), gauge(1, 0), gauge(2, 0), gauge(1, 2)];
         let rate = Rate { rise: 10, fall: 10 };
         let mut observer = Observer::new(rt.alloc(), plant(rt.alloc(), 2, 100, rate, &gauges, 2)?)?;
         let events = [
@@ -197,10 +164,7 @@ mod tests {
     // farthest from that of all three.
     #[test]
     fn the_farthest_is_not_named(rt: HostRuntime) -> Result<(), Fail> {
-        let gauges = [Gauge {
-            first: 1,
-            second: 0,
-        }; 3];
+        let gauges = [gauge(1, 0); 3];
         let rate = Rate { rise: 0, fall: 0 };
         let mut observer = Observer::new(rt.alloc(), plant(rt.alloc(), 1, 100, rate, &gauges, 1)?)?;
         observer.take(reading(0, 0, 40))?;
@@ -214,10 +178,7 @@ mod tests {
     // A limit that is met is not passed.
     #[test]
     fn limits(rt: HostRuntime) -> Result<(), Fail> {
-        let gauges = [Gauge {
-            first: 1,
-            second: 0,
-        }];
+        let gauges = [gauge(1, 0)];
         let rate = Rate { rise: 1, fall: 1 };
         let mut observer = Observer::new(rt.alloc(), plant(rt.alloc(), 1, 100, rate, &gauges, 0)?)?;
         observer.take(reading(0, 40, 60))?;
