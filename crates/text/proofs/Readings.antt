@@ -17,7 +17,7 @@ use Rattle.text.specs.Numbers.{digits, numeral, read_on, value, Fits, Number, Nu
 use Rattle.text.specs.Spelling.{Has, name, numbers, fields, spaced, written, Fit}
 use Rattle.text.specs.Words.{letter, split, chopped, words}
 use Rattle.text.proofs.Splits.{Passes, NoLetter, word_first, chop_same}
-use Rattle.text.proofs.Values.{own, never}
+use Rattle.text.proofs.Values.{own}
 
 -- the entry of a name and its numbers
 named : List (List ℕ × Entry) → List ℕ → Option Entry
@@ -90,7 +90,7 @@ not_both last [] (w ∷ ws) (z ∷ zs) x l h k = omega arith
 not_both last (f ∷ fs) [] [] x l h k = omega arith
 not_both last (f ∷ fs) [] (z ∷ zs) x l h k = k
 not_both last (f ∷ fs) (w ∷ ws) [] x l h k = k
-not_both last (f ∷ fs) (w ∷ ws) (z ∷ zs) x l (inl (inl h)) k = never (sym h.0 ∙ k.0.spelled)
+not_both last (f ∷ fs) (w ∷ ws) (z ∷ zs) x l (inl (inl h)) k = absurd (cc (h.0, k.0.spelled))
 not_both last (f ∷ fs) (w ∷ ws) (z ∷ zs) x l (inl (inr h)) k = h.1 (subst Fits (sym k.0.valued) k.0.fits)
 not_both last (f ∷ fs) (w ∷ ws) (z ∷ zs) x l (inr h) k = not_both w fs ws zs x (omega arith) h.1 k.1
 

@@ -35,7 +35,7 @@ word_ends c part (d ∷ rest) h = ends (blank d) (eqb d 35) refl refl
     ends : (b k : Bool) → blank d ≡ b → eqb d 35 ≡ k → split (c ∷ part) (d ∷ rest) ≡ (c ∷ part) ∷ split [] (d ∷ rest)
     ends true k p q = rw p refl
     ends false true p q = rw (p, q) refl
-    ends false false p q = absurd (let z : ◌≡◌ {A = ℕ} 0 1 = grind (arith, nat_tests, h, p, q) in omega arith)
+    ends false false p q = absurd (grind (arith, nat_tests, h, p, q))
 
 pub word_first : (w rest : List ℕ) → AllByRecursion (Passes letter) w → 0 < length w → NoLetter rest
     → split [] (w ++ rest) ≡ w ∷ split [] rest

@@ -14,7 +14,6 @@ use Rattle.text.specs.Lines.{HasNul, Says, Unsaid, Names, Refuses, ByWords, Read
 use Rattle.text.specs.Reader.{left, last_of, Next, Takes, Holds, Fails}
 use Rattle.text.specs.Spelling.{Has, name, numbers, fields}
 use Rattle.text.specs.Words.{words}
-use Rattle.text.proofs.Values.{never}
 
 -- from s to t the numbers zs were read, of the fields that were wanted `rest` are still to come
 pub record ReadUpTo (s t : Words) (zs : List ℤ) (wanted rest : List Field) : Type 0 where
@@ -86,13 +85,13 @@ module _ (format : Format) (line : List ℕ) (s t : Words) (plain : HasNul line 
   pub nothing : (first : Option (Bor (List ℕ))) → MatchOption first (left s ≡ []) (Next s t) → is_some first ≡ false
       → Reading format line (Ok None)
   nothing None h e = (plain, sym begun ∙ h)
-  nothing (Some w) h e = never (sym e)
+  nothing (Some w) h e = cc
 
   pub read : (first : Option (Bor (List ℕ))) (r : Result Entry LineError) (q : Result (Option Entry) LineError)
       → MatchOption first (left s ≡ []) (Next s t) → is_some first ≡ true
       → MatchResult r (Names format t) (Refuses format t)
       → MatchResult r (λ e. IsOkAnd q (λ o. o ≡ Some e)) (λ x. q ≡ Err x) → Reading format line q
-  read None r q h e k made = never e
+  read None r q h e k made = cc
   read (Some w) (Ok d) (Ok o) h e k made =
       subst (λ y. Reading format line (Ok y)) (sym made)
       (plain, by_first (λ v vs. Says format v vs d) line s t w begun h k)

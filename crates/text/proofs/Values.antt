@@ -15,9 +15,6 @@ use Rattle.text.specs.Numbers.{digits, numeral, read_on, value, Fits, Number}
 pub own : IsNumeralModel (λ ds. all_ascii_digits ds ≡ true) (read_on 0)
 own = numerals_by_fold _ (search rules) read_on (search rules)
 
-pub never : {A : Type 0} → false ≡ true → A
-never e = absurd (let z : ◌≡◌ {A = ℕ} 0 1 = cc in omega arith)
-
 -- as the code asks for them
 pub digits_all : (ds : List ℕ) → list_all is_ascii_digit ds ≡ all_ascii_digits ds
 digits_all [] = refl
@@ -28,7 +25,7 @@ digits_some [] l = absurd (omega arith)
 digits_some (c ∷ cs) l = refl
 
 digits_parts : (ds : List ℕ) → digits ds ≡ true → (all_ascii_digits ds ≡ true) × (0 < length ds)
-digits_parts [] h = never h
+digits_parts [] h = cc
 digits_parts (c ∷ cs) h = (h, omega arith)
 
 pub numeral_by : (bs : List ℕ) (r : Option (Bor (List ℕ))) (whole : Bor (List ℕ))
@@ -57,7 +54,7 @@ fits_minus (suc n) h = omega arith
 
 pub parsed : {E : Type 0} (w : List ℕ) (r : Result ℤ E) → ParsesSigned w64 10 w r → numeral w ≡ true
     → OkIff r (Fits (value w)) (value w)
-parsed [] r h n = never n
+parsed [] r h n = cc
 parsed {E} (c ∷ cs) r h n = by (eqb c 45) refl
   where
     by : (b : Bool) → eqb c 45 ≡ b → OkIff r (Fits (value (c ∷ cs))) (value (c ∷ cs))

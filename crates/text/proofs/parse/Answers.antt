@@ -1,16 +1,15 @@
-use Rattle.std.proofs.Common.{sym, refl, ◌∙◌, inl, lit<, rules}
+use Rattle.std.proofs.Common.{refl, inl, lit<, rules}
 use Rattle.std.proofs.lemmas.Str.Pattern.{contains_char}
 use Rattle.text.specs.Lines.{HasNul}
 use Rattle.text.proofs.Readings.{parses}
 use Rattle.text.proofs.Steps.{nothing, read}
-use Rattle.text.proofs.Values.{never}
 use Rattle.text.proofs.parse.Goals as goal
 use Rattle.text.proofs.parse.Goals.{Else-contains}
 
 plain : (c : Else-contains) → HasNul c.args.line.now → ⊥
 plain c h =
-    never (sym c.if-contains.false
-    ∙ (contains_char 0 c.args.line.now _ c.contains.ensures.cases (lit< tt)).1 h.0 h.1 h.2)
+    let found = (contains_char 0 c.args.line.now _ c.contains.ensures.cases (lit< tt)).1 h.0 h.1 h.2 in
+    cc (found, c.if-contains.false)
 
 pub returns-then-contains : goal.returns-then-contains
 returns-then-contains c =
