@@ -1,44 +1,43 @@
 -- The bits of a number as a set of gauges, and the number of such a set. Assumes nothing.
-use Rattle.std.proofs.Common.{◌≡◌, ℕ, zero, suc, ◌+◌, ◌-◌, ◌*◌, ◌/◌, ◌%◌, ◌^◌, ◌<◌, ◌≤◌, min, Bool, true, false, cond, ◌&&◌, eqb, ltb, sym, refl, ap, ◌∙◌, subst, inl, inr, mod-lt, pow-suc, one-add, arith, pow_pos, pow_mono}
-use native.Mathlib.Nat.{mod-one, div-eq_of_lt}
-use lib.Bits.{bit_and, and_step}
+use Rattle.std.proofs.Common.{◌≡◌, ℕ, zero, suc, ◌+◌, ◌-◌, ◌*◌, ◌/◌, ◌%◌, ◌^◌, ◌<◌, ◌≤◌, Bool, true, false, cond, ◌&&◌, eqb, ltb, sym, refl, ap, ◌∙◌, inl, inr, mod-lt, pow-suc, one-add, arith, pow_pos}
+use native.Mathlib.Nat.{mod-one}
+use lib.Bits.{bit_and}
 use lib.Count.{ones_in, ones, ones_cat}
-use lib.Pow.{mod-pow-add, mod-mod-pow, field, high, low, ones_lt}
-use Rattle.std.proofs.lemmas.Nat.{and_shr}
+use lib.Pow.{mod-pow-add}
+use Rattle.std.proofs.lemmas.Nat.{one_shl}
+use Rattle.std.proofs.lemmas.Nat.Bits.{bit_at-lt, bit_at_and, bit_at_above, bit_at_ones, bit_at_ones_above, bit_at_cat_low, bit_at_cat_high}
+use Rattle.std.specs.Int.{bit_at}
 use Rattle.std.proofs.lemmas.Bool.{cases_eq, cases_lt}
 use Rattle.std.proofs.lemmas.Bool.Decides.{nat_tests}
 use Rattle.theory.specs.History.{FaultSet, count}
 use Rattle.faults.specs.Sets.{bit_set}
 
+-- Shifted by g, at most 16, a 1 is the number of sets of g gauges.
+pub subsets : (g : ℕ) → g ≤ 16 → 1 * 2 ^ g % 4294967296 - 0 ≡ 2 ^ g
+subsets g h = let e : 1 * 2 ^ g % 4294967296 ≡ 2 ^ g = one_shl g 32 (omega arith) in omega arith
+
 -- ---- single bits
 -- The bits of a number below 2 to the g are bits below g.
 pub bit_past : (m g a : ℕ) → m < 2 ^ g → g ≤ a → bit_set m a ≡ false
 unfolding bit_set
-bit_past m g a h l =
-    let wide : 2 ^ g ≤ 2 ^ a = pow_mono l in
-    let small : m < 2 ^ a = omega arith in
-    rw (div-eq_of_lt small)
-
--- What is left over at 2 to the g has the same bits below g.
-pub bit_rest : (m g a : ℕ) → a < g → bit_set (m % 2 ^ g) a ≡ bit_set m a
-unfolding bit_set
-bit_rest m g a h =
-    let j : ℕ = g - (a + 1) in
-    let whole : j + 1 + a ≡ g = omega arith in
-    let at_bit : bit_set (m % 2 ^ (j + 1 + a)) a ≡ bit_set m a =
-    ap (λ x. eqb (x % 2) 1) (field m (j + 1) a) ∙ ap (λ x. eqb x 1) (mod-mod-pow (m / 2 ^ a) j 1) in
-    subst (λ k. bit_set (m % 2 ^ k) a ≡ bit_set m a) whole at_bit
+bit_past m g a h l = ap (λ b. eqb b 1) (bit_at_above m g a h l)
 
 -- Of two numbers, bit by bit.
 pub bit_of_and : (m k a : ℕ) → bit_set (bit_and m k) a ≡ (bit_set m a && bit_set k a)
 unfolding bit_set
 bit_of_and m k a =
-    let x : ℕ = m / 2 ^ a in
-    let y : ℕ = k / 2 ^ a in
-    let last : bit_and x y % 2 ≡ min (x % 2) (y % 2) = omega (arith, and_step x y) in
-    let p : x % 2 < 2 = omega arith in
-    let q : y % 2 < 2 = omega arith in
-    rw (and_shr m k a, last) (grind (arith, nat_tests))
+    let p = bit_at-lt m a in
+    let q = bit_at-lt k a in
+    rw (bit_at_and m k a) (grind (arith, nat_tests))
+
+-- All bits below g.
+pub bit_all : (g a : ℕ) → bit_set (2 ^ g - 1) a ≡ ltb a g
+unfolding bit_set
+bit_all g a =
+    elim (cases_lt a g) [
+      | inl l ↦ rw (bit_at_ones g a l) (grind (arith, nat_tests))
+      | inr l ↦ rw (bit_at_ones_above g a l) (grind (arith, nat_tests))
+    ]
 
 -- ---- counting
 bit_is : (b : ℕ) → b < 2 → cond (eqb b 1) 1 0 ≡ b
@@ -103,37 +102,19 @@ number_same (suc g) w v h =
     let below : number g w ≡ number g v = number_same g w v (λ a l. h a (omega arith)) in
     cc
 
-top_bit : (b : Bool) (g r : ℕ) → r < 2 ^ g → bit_set (cond b 1 0 * 2 ^ g + r) g ≡ b
-unfolding bit_set
-top_bit true g r h = rw (high 1 g h)
-top_bit false g r h = rw (high 0 g h)
-
 -- The gauges below g of a set are those of its number.
 pub bit_number : (g : ℕ) (w : FaultSet) (a : ℕ) → a < g → bit_set (number g w) a ≡ w a
+unfolding bit_set
 bit_number zero w a h = absurd (omega arith)
 bit_number (suc g) w a h =
     let b : ℕ = cond (w g) 1 0 in
     let r : ℕ = number g w in
-    let small : r < 2 ^ g = number_below g w in
     elim (cases_eq a g) [
-      | inl e ↦ ap (bit_set (b * 2 ^ g + r)) e ∙ top_bit (w g) g r small ∙ ap w (sym e)
-      | inr e ↦ sym (bit_rest (b * 2 ^ g + r) g a (omega arith))
-          ∙ ap (λ k. bit_set k a) (low b g small) ∙ bit_number g w a (omega arith)
+      | inl e ↦ ap (λ k. eqb (bit_at (b * 2 ^ g + r) k) 1) e ∙ ap (λ n. eqb n 1) (bit_at_cat_high b g r g (number_below g w) (omega arith))
+          ∙ top_bit (w g) (g - g) (omega arith) ∙ ap w (sym e)
+      | inr e ↦ ap (λ n. eqb n 1) (bit_at_cat_low b g r a (omega arith)) ∙ bit_number g w a (omega arith)
     ]
-
--- All bits below g.
-every : FaultSet
-every a = true
-
-number_all : (g : ℕ) → number g every ≡ 2 ^ g - 1
-unfolding every
-number_all zero = refl
-number_all (suc g) = let below : number g every ≡ 2 ^ g - 1 = number_all g in rw pow-suc (omega (arith, pow_pos g))
-
-pub bit_all : (g a : ℕ) → bit_set (2 ^ g - 1) a ≡ ltb a g
-unfolding every
-bit_all g a =
-    elim (cases_lt a g) [
-      | inl l ↦ rw (← number_all g, bit_number g every a l) (grind (arith, nat_tests))
-      | inr l ↦ rw (bit_past (2 ^ g - 1) g a (ones_lt g) l) (grind (arith, nat_tests))
-    ]
+  where
+    top_bit : (b : Bool) (k : ℕ) → k ≡ 0 → eqb (bit_at (cond b 1 0) k) 1 ≡ b
+    top_bit true k e = rw e refl
+    top_bit false k e = rw e refl

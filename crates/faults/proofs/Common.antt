@@ -1,11 +1,9 @@
 -- The gauges that are in all of a list of sets. Assumes nothing.
-use mathlib.Core.Path.{◌≡◌, sym, subst, ◌∙◌}
+use mathlib.Core.Path.{◌≡◌, sym, ◌∙◌}
 use mathlib.Core.Bool.{true, ◌&&◌}
 use mathlib.Core.List.{List, [], ◌∷◌, ◌++◌}
-use Prim.Native.Nat.{ℕ, ◌+◌, ◌<◌}
-use lib.ListN.{length, get_or, take}
+use Prim.Native.Nat.{ℕ}
 use Rattle.std.proofs.ByRecursion.{All-push}
-use Rattle.std.proofs.lemmas.List.{take_more}
 use Rattle.std.proofs.lemmas.Bool.{and_from, and_parts}
 use Rattle.theory.proofs.Faults.{all_front, all_back}
 use Rattle.faults.specs.declared.set.FaultSet.{FaultSet}
@@ -14,7 +12,8 @@ use Rattle.faults.specs.Sets.{gauge_set, Common}
 abbrev InBoth : (r s t : FaultSet) → Type 0
 InBoth r s t = (a : ℕ) → gauge_set r a ≡ (gauge_set s a && gauge_set t a)
 
-common_push : (g : ℕ) (xs : List FaultSet) (s t r : FaultSet) → Common g xs s → InBoth r s t → Common g (xs ++ t ∷ []) r
+-- One set more.
+pub common_push : (g : ℕ) (xs : List FaultSet) (s t r : FaultSet) → Common g xs s → InBoth r s t → Common g (xs ++ t ∷ []) r
 common_push g xs s t r h both a =
     let P : FaultSet → Type 0 = λ u. gauge_set u a ≡ true in (
       λ e.
@@ -25,10 +24,3 @@ common_push g xs s t r h both a =
           let old = (h a).1 (k.0, k.1, all_front P xs (t ∷ []) k.2) in
           both a ∙ and_from (gauge_set s a) (gauge_set t a) old (all_back P xs (t ∷ []) k.2).0,
     )
-
--- One set more.
-pub common_more :
-    (g : ℕ) (xs : List FaultSet) (i : ℕ) (d s r : FaultSet) → i < length xs →
-    Common g (take i xs) s → InBoth r s (get_or xs i d) → Common g (take (i + 1) xs) r
-common_more g xs i d s r l h both =
-    subst (λ ys. Common g ys r) (sym (take_more xs i d l)) (common_push g (take i xs) s (get_or xs i d) r h both)

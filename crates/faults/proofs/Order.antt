@@ -3,11 +3,19 @@
 use Rattle.std.proofs.Common.{◌≡◌, ℕ, zero, suc, ◌+◌, ◌^◌, ◌<◌, ◌≤◌, Bool, true, false, cond, eqb, ◌⊎◌, List, [], ◌∷◌, ◌++◌, map, length, get_or, filter, sym, refl, ap, ◌∙◌, subst, inl, inr, add-one, arith}
 use lib.Count.{ones}
 use Rattle.std.specs.List.{range_with_len, HoldsAt, ContainsAt as Has, AllByRecursion}
-use Rattle.std.proofs.lemmas.List.FromFn.{filter_of_map_range_with_len_more}
 use Rattle.std.proofs.ByRecursion.{All-append, All-get_or, all-has, All-from_get_or, All-weaker, has_append_left, has_append_right}
 use Rattle.std.proofs.lemmas.Bool.{cases_eq, cases_order, eq-eqb, eqb-true, true≢false}
 use Rattle.faults.specs.declared.set.FaultSet.{FaultSet}
-use Rattle.faults.specs.Sets.{size, Before, Ascending, Few, Lists, numbered, of_size}
+use Rattle.faults.specs.Sets.{size, Before, Ascending, Few, Lists}
+
+-- ---- sets by their numbers
+-- The set with a number.
+abbrev pub numbered : ℕ → FaultSet
+numbered m = record { bits = m }
+
+-- The sets of k gauges among those with a number below n, by number.
+abbrev pub of_size : (k n : ℕ) → List FaultSet
+of_size k n = filter (λ s. eqb (size s) k) (map numbered (range_with_len 0 n))
 
 -- ---- the order
 not_itself : (s : FaultSet) → Before s s → ⊥
@@ -54,11 +62,6 @@ from k a n = filter (λ s. eqb (size s) k) (map numbered (range_with_len a n))
 
 abbrev Between : (k a n : ℕ) → FaultSet → Type 0
 Between k a n s = (a ≤ s.bits) × (s.bits < a + n) × (size s ≡ k)
-
--- One number more, as the loop adds it.
-pub of_size_more :
-    (k n : ℕ) → of_size k (n + 1) ≡ of_size k n ++ cond (eqb (ones n) k) (numbered n ∷ []) []
-of_size_more k n = filter_of_map_range_with_len_more (λ s. eqb (size s) k) numbered 0 n n (omega arith)
 
 all_one :
     (P : FaultSet → Type 0) (x : FaultSet) (xs : List FaultSet) (b : Bool) →

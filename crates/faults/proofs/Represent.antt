@@ -9,10 +9,10 @@ use Rattle.theory.specs.History.{count, AtMost}
 use Rattle.theory.proofs.Faults.{count_same}
 use Rattle.theory.proofs.Trajectories.{same_history}
 use Rattle.faults.specs.declared.set.FaultSet.{FaultSet}
-use Rattle.faults.specs.Sets.{gauge_set, size, Few, Lists, numbered}
+use Rattle.faults.specs.Sets.{gauge_set, size, Few, Lists}
 use Rattle.faults.specs.Represents.{Agree, AgreeBelow, SameHistories, Represented, Represents}
 use Rattle.faults.proofs.Bits.{bit_past, count_bits, number, number_below, number_bits, number_same, bit_number}
-use Rattle.faults.proofs.Order.{one_place}
+use Rattle.faults.proofs.Order.{numbered, one_place}
 
 -- ---- from a set to the theory's and back
 -- A set below 2 to the g has as many ones as gauges below g.

@@ -1,15 +1,8 @@
 -- How many gauges there can be, and how many of them wrong. Assumes nothing: these are definitions.
-use Rattle.std.specs.Prelude.{◌≡◌, ℕ, cond, ◌&&◌, Some, None, Option, nat_le, nat_lt}
+use Rattle.std.specs.Prelude.{ℕ, cond, ◌&&◌, Some, None, Option, nat_le, nat_lt}
 use Rattle.refusal.specs.declared.kinds.Refusal.{Refusal}
 use Rattle.refusal.specs.declared.kinds.Refusal.TheVariants.{Gauges, Wrong}
-use Rattle.faults.specs.declared.error.FaultsError.{FaultsError}
-use Rattle.faults.specs.declared.error.FaultsError.TheVariants.{Refused, NoMemory}
 
 -- There are 1 to 12 gauges, and at most 2 of them may be wrong, and never all. The gauges are refused first.
 abbrev pub refusal_of : (g f : ℕ) → Option Refusal
 refusal_of g f = cond (nat_le 1 g && nat_le g 12) (cond (nat_le f 2 && nat_lt f g) None (Some Wrong)) (Some Gauges)
-
--- Why there is no list: the limits, or else want of memory.
-abbrev pub Fails : (g f : ℕ) → FaultsError → Type 0
-Fails g f (Refused e) = refusal_of g f ≡ Some e
-Fails g f NoMemory = refusal_of g f ≡ None

@@ -1,6 +1,6 @@
 -- Fault sets as numbers, and the order in which they are listed. Assumes nothing: these are definitions.
-use Rattle.std.specs.Prelude.{◌≡◌, ℕ, ◌/◌, ◌%◌, ◌^◌, ◌<◌, ◌≤◌, true, ◌⊎◌, List, map, length, Decides, filter, ◌==◌, count_ones, nat_eq, slice_index_or}
-use Rattle.std.specs.List.{range_with_len, ContainsAt as Has, AllByRecursion}
+use Rattle.std.specs.Prelude.{◌≡◌, ℕ, ◌/◌, ◌%◌, ◌^◌, ◌<◌, ◌≤◌, true, ◌⊎◌, List, length, Decides, ◌==◌, count_ones, slice_index_or}
+use Rattle.std.specs.List.{ContainsAt as Has, AllByRecursion}
 use Rattle.theory.specs.History as history
 use Rattle.faults.specs.declared.set.FaultSet.{FaultSet}
 
@@ -40,14 +40,6 @@ pub record NumberOf (f g n : ℕ) : Type 0 where
   pub lists : Lists f g sets
   pub long : length sets ≡ n
   pub every : (xs : List FaultSet) → Lists f g xs → length xs ≡ n
-
--- The set with a number.
-abbrev pub numbered : ℕ → FaultSet
-numbered m = record { bits = m }
-
--- The sets of k gauges among those with a number below n, by number.
-abbrev pub of_size : (k n : ℕ) → List FaultSet
-of_size k n = filter (λ s. nat_eq (size s) k) (map numbered (range_with_len 0 n))
 
 -- In r are just the gauges below g, of the 16 that there can be, that are in all of the sets.
 abbrev pub Common : ℕ → List FaultSet → FaultSet → Type 0

@@ -1,13 +1,13 @@
 // The fault sets in order: by how many gauges they have, and then by value.
-ghost use Rattle.std.specs.Prelude.{◌≡◌, ◌^◌, ◌<◌, ◌≤◌, ◌++◌, length, IfOk, Some, None, MatchOption, MatchResult};
+ghost use Rattle.std.specs.Prelude.{◌≡◌, ◌<◌, ◌≤◌, length, IfOk, MatchOption};
 ghost use Rattle.std.specs.List.{HoldsAt};
-ghost use Rattle.faults.specs.Limits.{Fails, refusal_of};
-ghost use Rattle.faults.specs.Sets.{Common, Lists, NumberOf, of_size};
+ghost use Rattle.refusal.specs.Order.{Answers, Found, Makes};
+ghost use Rattle.faults.specs.Limits.{refusal_of};
+ghost use Rattle.faults.specs.Sets.{Common, Lists, NumberOf};
 ghost use Rattle.faults.specs.Represents.{Represents};
 
-use crate::error::FaultsError;
 use crate::set::FaultSet;
-use refusal::Refusal;
+use refusal::{Failure, Refusal};
 use std::alloc::{AllocError, Global};
 
 // The most gauges, and the most of them that may be wrong. The listing itself is proved for 16 and 3.
@@ -17,7 +17,7 @@ pub const MAX_WRONG: u32 = 2;
 
 // Whether so many gauges, and so many wrong ones among them, are taken.
 pub fn check_limits(gauges: u32, wrong: u32) -> Result<(), Refusal>
-    ensures { MatchResult result (λ _. refusal_of gauges wrong ≡ None) (λ e. refusal_of gauges wrong ≡ Some e) }
+    ensures { Found result (refusal_of gauges wrong) }
 {
     if gauges < 1 || gauges > MAX_GAUGES {
         return Err(Refusal::Gauges);
@@ -28,47 +28,24 @@ pub fn check_limits(gauges: u32, wrong: u32) -> Result<(), Refusal>
     Ok(())
 }
 
-// How many sets of the gauges there are: their numbers are the ones below it.
-fn subsets(gauges: u32) -> u32
-    requires { gauges ≤ 16 }
-    ensures value { result ≡ 2 ^ gauges }
-    ensures bound { result ≤ 2 ^ 16 }
-{
-    1 << gauges
-}
-
-// Adds the sets of `size` of the gauges, by value.
-fn add_of_size(sets: &mut Vec<FaultSet>, size: u32, gauges: u32) -> Result<(), AllocError>
-    requires { gauges ≤ 16 }
-    ensures { IfOk result
-        (λ _. sets.new.items ≡ sets.old.items ++ of_size size (2 ^ gauges)) }
-{
-    let end = subsets(gauges);
-    for bits in 0..end {
-        let set = FaultSet { bits: bits as u16 };
-        if set.len() == size {
-            sets.push(set)?;
-        }
-    }
-    Ok(())
-}
-
-// The sets of at most `wrong` of the gauges, smaller ones first.
+// The sets of at most `wrong` of the gauges, smaller ones first, and of one size by value.
 fn list(heap: Global, gauges: u32, wrong: u32) -> Result<Vec<FaultSet>, AllocError>
     requires { (gauges ≤ 16) × (wrong ≤ 3) }
     ensures { IfOk result (λ v. Lists wrong gauges v.items) }
 {
     let mut sets = Vec::new(heap);
     for size in 0..wrong + 1 {
-        add_of_size(&mut sets, size, gauges)?;
+        let of_size = (0..1u32 << gauges)
+            .map(|bits| FaultSet { bits: bits as u16 })
+            .filter(|set| set.len() == size);
+        sets.extend(of_size)?;
     }
     Ok(sets)
 }
 
 // Every set of at most `wrong` of the gauges, once, in order.
-pub fn fault_sets(heap: Global, gauges: u32, wrong: u32) -> Result<Vec<FaultSet>, FaultsError>
-    ensures listed { MatchResult result (λ v. (refusal_of gauges wrong ≡ None) × Lists wrong gauges v.items)
-        (Fails gauges wrong) }
+pub fn fault_sets(heap: Global, gauges: u32, wrong: u32) -> Result<Vec<FaultSet>, Failure>
+    ensures listed { Makes result (refusal_of gauges wrong) (λ v. Lists wrong gauges v.items) }
     ensures represents { IfOk result (λ v. Represents wrong gauges v.items) }
 {
     check_limits(gauges, wrong)?;
@@ -80,20 +57,14 @@ fn count_sets(gauges: u32, wrong: u32) -> usize
     requires { gauges ≤ 16 }
     ensures { NumberOf wrong gauges result }
 {
-    let end = subsets(gauges);
-    let mut found = 0;
-    for bits in 0..end {
-        if bits.count_ones() <= wrong {
-            found += 1;
-        }
-    }
-    found
+    (0..1u32 << gauges)
+        .filter(|bits| bits.count_ones() <= wrong)
+        .count()
 }
 
 // How many sets of at most `wrong` of the gauges there are.
 pub fn how_many(gauges: u32, wrong: u32) -> Result<usize, Refusal>
-    ensures { MatchResult result (λ n. (refusal_of gauges wrong ≡ None) × NumberOf wrong gauges n)
-        (λ e. refusal_of gauges wrong ≡ Some e) }
+    ensures { Answers result (refusal_of gauges wrong) (NumberOf wrong gauges) Unit }
 {
     check_limits(gauges, wrong)?;
     Ok(count_sets(gauges, wrong))
@@ -111,11 +82,7 @@ pub fn set_at(sets: &[FaultSet], place: usize) -> Option<FaultSet>
 pub fn in_all(sets: &[FaultSet], gauges: u32) -> FaultSet
     ensures { Common gauges sets.now result }
 {
-    let mut common = FaultSet::all(gauges);
-    for set in sets {
-        common = common.intersect(*set);
-    }
-    common
+    sets.iter().fold(FaultSet::all(gauges), |common, set| common.intersect(*set))
 }
 
 #[cfg(test)]
@@ -128,9 +95,9 @@ mod tests {
     fn two_of_three(rt: HostRuntime) -> Result<(), Fail> {
         let sets = fault_sets(rt.alloc(), 3, 2)?;
         let bits = [0b000, 0b001, 0b010, 0b100, 0b011, 0b101, 0b110];
-        assert!(rt; sets.len() == 7);
-        for i in 0..7 {
-            assert_eq!(rt; sets[i].bits, bits[i]);
+        assert_eq!(rt; sets.len(), 7);
+        for (set, wanted) in sets.iter().zip(bits) {
+            assert_eq!(rt; set.bits, wanted);
         }
         assert_eq!(rt; set_at(sets.as_slice(), 4), Some(FaultSet { bits: 0b011 }));
         assert_eq!(rt; set_at(sets.as_slice(), 7), None);
@@ -167,13 +134,8 @@ mod tests {
             (1, 1, 1),
         ];
         for (gauges, wrong, place) in refused {
-            match how_many(gauges, wrong) {
-                Ok(_) => return Err(Fail::new("taken")),
-                Err(e) => {
-                    assert_eq!(rt; e.number(), 2);
-                    assert_eq!(rt; e.place(), place);
-                }
-            }
+            let answer = how_many(gauges, wrong).map_err(|e| (e.number(), e.place()));
+            assert_eq!(rt; answer, Err((2, place)));
         }
         for (gauges, wrong) in [(1, 0), (3, 2), (12, 2)] {
             assert!(rt; check_limits(gauges, wrong).is_ok());

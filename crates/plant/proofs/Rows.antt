@@ -1,5 +1,5 @@
 -- Rows of events, event by event. Assumes nothing.
-use Rattle.std.proofs.Common.{◌≡◌, ℕ, ◌+◌, ◌<◌, ◌≤◌, cond, List, [], ◌∷◌, ◌++◌, length, get_or, drop, is_some, Some, None, refl, ap, ◌∙◌, arith}
+use Rattle.std.proofs.Common.{◌≡◌, ℕ, ◌+◌, ◌<◌, ◌≤◌, Bool, true, false, cond, filter, List, [], ◌∷◌, ◌++◌, length, get_or, drop, is_some, Some, None, refl, ap, ◌∙◌, arith}
 use Rattle.std.proofs.lemmas.List.{drop_more}
 use Rattle.plant.specs.declared.kinds.Event.{Event}
 use Rattle.plant.specs.declared.kinds.Event.TheVariants as event
@@ -10,9 +10,15 @@ use Rattle.refusal.proofs.Orders.{both_none, neither}
 use Rattle.plant.specs.Events.{gauge_refused, ends_refused, reading_refused, event_refused, step_count, steps_in, of_reading}
 use Rattle.plant.specs.Events.{readings_refused, steps_refused, taken}
 
-pub steps_more : (es : List Event) (i : ℕ) (d : Event) → i < length es →
-    steps_in (drop i es) ≡ step_count (get_or es i d) + steps_in (drop (i + 1) es)
-steps_more es i d h = ap steps_in (drop_more es i d h)
+abbrev pub is_step : Event → Bool
+is_step event.Step = true
+is_step (event.Reading r) = false
+
+-- the steps are the events that are steps
+pub steps_counted : (es : List Event) → length (filter is_step es) ≡ steps_in es
+steps_counted [] = refl
+steps_counted (event.Step ∷ es) = omega (arith, steps_counted es)
+steps_counted (event.Reading r ∷ es) = omega (arith, steps_counted es)
 
 -- one event more at the end
 pub steps_push : (es : List Event) (e : Event) → steps_in (es ++ (e ∷ [])) ≡ steps_in es + step_count e

@@ -1,6 +1,6 @@
 -- Which events are taken. Assumes nothing: these are definitions.
-use Rattle.std.specs.Prelude.{ℕ, ◌+◌, cond, ◌||◌, List, [], ◌∷◌, pos, neg_ℤ, is_some, None, Option, int_lt, nat_le, nat_lt}
-use Rattle.refusal.specs.Order.{when, or_else, first_of}
+use Rattle.std.specs.Prelude.{ℕ, ◌+◌, cond, ◌||◌, List, [], ◌∷◌, pos, neg_ℤ, is_some, None, Option, Result, int_lt, nat_le, nat_lt}
+use Rattle.refusal.specs.Order.{when, or_else, first_of, Found}
 use Rattle.refusal.specs.declared.kinds.Refusal.{Refusal}
 use Rattle.refusal.specs.declared.kinds.Refusal.TheVariants as refuses
 use Rattle.plant.specs.declared.kinds.Event.{Event}
@@ -44,6 +44,10 @@ steps_in (e ∷ es) = step_count e + steps_in es
 abbrev pub of_reading : (GaugeReading → Option Refusal) → Event → Option Refusal
 of_reading f event.Step = None
 of_reading f (event.Reading r) = f r
+
+-- Whatever a check answers at a reading, it is by what is refused of the reading.
+abbrev pub AnswersBy : (GaugeReading → Result Unit Refusal → Type 0) → (GaugeReading → Option Refusal) → Type 0
+AnswersBy answers refused = (r : GaugeReading) (a : Result Unit Refusal) → answers r a → Found a (refused r)
 
 -- The readings of a row: a gauge that is not there comes before ends that are not in order, wherever they stand.
 abbrev pub readings_refused : ℕ → List Event → Option Refusal

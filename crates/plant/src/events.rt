@@ -1,8 +1,10 @@
 // The checks of events, one by one and in a row.
-ghost use Rattle.std.specs.Prelude.{◌≡◌};
+ghost use Rattle.std.specs.Prelude.{◌≡◌, Option};
 ghost use Rattle.refusal.specs.Order.{Found, first_of};
+ghost use Rattle.refusal.specs.declared.kinds.Refusal.{Refusal};
+ghost use Rattle.plant.specs.declared.kinds.GaugeReading.{GaugeReading};
 ghost use Rattle.plant.specs.Events.{ends_refused, gauge_refused, of_reading, reading_refused, readings_refused};
-ghost use Rattle.plant.specs.Events.{step_refused, steps_refused};
+ghost use Rattle.plant.specs.Events.{step_refused, steps_in, steps_refused, AnswersBy};
 
 use crate::kinds::{Event, GaugeReading};
 use refusal::Refusal;
@@ -54,25 +56,18 @@ pub fn check_step(steps: u32) -> Result<(), Refusal>
     Ok(())
 }
 
-// Every reading of a row is of a gauge in play.
-fn check_row_gauges(gauges: u32, events: &[Event]) -> Result<(), Refusal>
-    ensures { Found result (first_of (of_reading (gauge_refused gauges)) events.now) }
+// The first of the readings of a row that a check refuses decides.
+fn check_each<F: Fn(GaugeReading) -> Result<(), Refusal>>(
+    events: &[Event],
+    check: F,
+) -> Result<(), Refusal>
+    requires { F.IsAlwaysCallable check }
+    ensures { (refused : GaugeReading → Option Refusal) → AnswersBy (F.post check) refused →
+        Found result (first_of (of_reading refused) events.now) }
 {
     for event in events {
         if let Event::Reading(reading) = *event {
-            check_gauge(gauges, reading)?;
-        }
-    }
-    Ok(())
-}
-
-// The ends of every reading of a row are in order and within their limits.
-fn check_row_ends(events: &[Event]) -> Result<(), Refusal>
-    ensures { Found result (first_of (of_reading ends_refused) events.now) }
-{
-    for event in events {
-        if let Event::Reading(reading) = *event {
-            check_ends(reading)?;
+            check(reading)?;
         }
     }
     Ok(())
@@ -82,20 +77,26 @@ fn check_row_ends(events: &[Event]) -> Result<(), Refusal>
 pub fn check_readings(gauges: u32, events: &[Event]) -> Result<(), Refusal>
     ensures { Found result (readings_refused gauges events.now) }
 {
-    check_row_gauges(gauges, events)?;
-    check_row_ends(events)
+    check_each(events, |reading| check_gauge(gauges, reading))?;
+    check_each(events, check_ends)
+}
+
+// How many steps are in a row.
+fn count_steps(events: &[Event]) -> usize
+    ensures { result ≡ steps_in events.now }
+{
+    events
+        .iter()
+        .filter(|event| matches!(event, Event::Step))
+        .count()
 }
 
 // A row has no more steps than are taken.
 pub fn check_steps(events: &[Event]) -> Result<(), Refusal>
     ensures { Found result (steps_refused events.now) }
 {
-    let mut steps = 0;
-    for event in events {
-        if let Event::Step = *event {
-            check_step(steps)?;
-            steps += 1;
-        }
+    if count_steps(events) > MAX_STEPS as usize {
+        return Err(Refusal::Steps(MAX_STEPS + 1));
     }
     Ok(())
 }

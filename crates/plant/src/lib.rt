@@ -16,7 +16,6 @@ mod tests {
     use super::*;
     use refusal::{Failure, Refusal};
     use std::alloc::Global;
-    use std::process::Abort;
     use std::test::Fail;
     use zones::{Range, Rate};
 
@@ -68,36 +67,16 @@ mod tests {
         make(heap, 2, 0, &[HIGH; 2], &[STILL; 2], &[LEVEL, tried, tried])
     }
 
-    // A plant is refused by this number at this place.
-    fn check_no_plant(
-        rt: &impl Abort,
-        made: Result<Plant, Failure>,
-        number: u8,
-        place: u64,
-    ) -> Result<(), Fail> {
-        match made {
-            Ok(_) => Err(Fail::new("taken")),
-            Err(Failure::NoMemory) => Err(Fail::new("no memory")),
-            Err(Failure::Refused(refusal)) => {
-                assert_eq!(rt; (refusal.number(), refusal.place()), (number, place));
-                Ok(())
-            },
-        }
+    // The number and the place of a refusal.
+    fn told(refusal: Refusal) -> (u8, u64) {
+        (refusal.number(), refusal.place())
     }
 
-    // So is an event, or a row of them.
-    fn check_refused(
-        rt: &impl Abort,
-        res: Result<(), Refusal>,
-        number: u8,
-        place: u64,
-    ) -> Result<(), Fail> {
-        match res {
-            Ok(()) => Err(Fail::new("taken")),
-            Err(refusal) => {
-                assert_eq!(rt; (refusal.number(), refusal.place()), (number, place));
-                Ok(())
-            },
+    // Those by which a plant is refused.
+    fn refused(made: Result<Plant, Failure>) -> Option<(u8, u64)> {
+        match made {
+            Err(Failure::Refused(refusal)) => Some(told(refusal)),
+            Ok(_) | Err(Failure::NoMemory) => None,
         }
     }
 
@@ -122,22 +101,31 @@ mod tests {
     #[test]
     fn numbers_of_basins_and_gauges(rt: HostRuntime) -> Result<(), Fail> {
         let heap = rt.alloc();
-        check_no_plant(
-            &rt,
-            make(heap, 0, 0, &[HIGH; 0], &[STILL; 0], &[LEVEL]),
-            1,
-            0,
-        )?;
-        check_no_plant(
-            &rt,
-            make(heap, 9, 0, &[HIGH; 9], &[STILL; 9], &[LEVEL]),
-            1,
-            0,
-        )?;
-        check_no_plant(&rt, make(heap, 1, 0, &[HIGH], &[STILL], &[LEVEL; 0]), 2, 0)?;
-        check_no_plant(&rt, make(heap, 1, 0, &[HIGH], &[STILL], &[LEVEL; 13]), 2, 0)?;
-        check_no_plant(&rt, make(heap, 1, 3, &[HIGH], &[STILL], &[LEVEL; 12]), 2, 1)?;
-        check_no_plant(&rt, make(heap, 1, 2, &[HIGH], &[STILL], &[LEVEL; 2]), 2, 1)
+        assert_eq!(rt;
+            refused(make(heap, 0, 0, &[HIGH; 0], &[STILL; 0], &[LEVEL])),
+            Some((1, 0))
+        );
+        assert_eq!(rt;
+            refused(make(heap, 9, 0, &[HIGH; 9], &[STILL; 9], &[LEVEL])),
+            Some((1, 0))
+        );
+        assert_eq!(rt;
+            refused(make(heap, 1, 0, &[HIGH], &[STILL], &[LEVEL; 0])),
+            Some((2, 0))
+        );
+        assert_eq!(rt;
+            refused(make(heap, 1, 0, &[HIGH], &[STILL], &[LEVEL; 13])),
+            Some((2, 0))
+        );
+        assert_eq!(rt;
+            refused(make(heap, 1, 3, &[HIGH], &[STILL], &[LEVEL; 12])),
+            Some((2, 1))
+        );
+        assert_eq!(rt;
+            refused(make(heap, 1, 2, &[HIGH], &[STILL], &[LEVEL; 2])),
+            Some((2, 1))
+        );
+        Ok(())
     }
 
     // Of rates the rises come first, and then the falls, with the two basins added.
@@ -152,20 +140,21 @@ mod tests {
             rise: 0,
             fall: 10_001,
         };
-        check_no_plant(&rt, with_rates(heap, &[STILL; 1]), 3, 1)?;
-        check_no_plant(&rt, with_rates(heap, &[rises, rises]), 4, 1)?;
-        check_no_plant(&rt, with_rates(heap, &[falls, rises]), 4, 2)?;
-        check_no_plant(&rt, with_rates(heap, &[falls, falls]), 4, 3)?;
-        check_no_plant(&rt, with_rates(heap, &[QUICK, falls]), 4, 4)?;
+        assert_eq!(rt; refused(with_rates(heap, &[STILL; 1])), Some((3, 1)));
+        assert_eq!(rt; refused(with_rates(heap, &[rises, rises])), Some((4, 1)));
+        assert_eq!(rt; refused(with_rates(heap, &[falls, rises])), Some((4, 2)));
+        assert_eq!(rt; refused(with_rates(heap, &[falls, falls])), Some((4, 3)));
+        assert_eq!(rt; refused(with_rates(heap, &[QUICK, falls])), Some((4, 4)));
         let turned = Range { least: 2, most: 1 };
         let above = Range {
             least: 0,
             most: 100_001,
         };
-        check_no_plant(&rt, with_ranges(heap, &[HIGH; 3]), 3, 3)?;
-        check_no_plant(&rt, with_ranges(heap, &[turned, above]), 6, 1)?;
-        check_no_plant(&rt, with_ranges(heap, &[HIGH, turned]), 6, 2)?;
-        check_no_plant(&rt, with_ranges(heap, &[HIGH, above]), 6, 2)
+        assert_eq!(rt; refused(with_ranges(heap, &[HIGH; 3])), Some((3, 3)));
+        assert_eq!(rt; refused(with_ranges(heap, &[turned, above])), Some((6, 1)));
+        assert_eq!(rt; refused(with_ranges(heap, &[HIGH, turned])), Some((6, 2)));
+        assert_eq!(rt; refused(with_ranges(heap, &[HIGH, above])), Some((6, 2)));
+        Ok(())
     }
 
     // Past the plant on either side, twice at one basin, first the datum.
@@ -173,7 +162,7 @@ mod tests {
     fn placements(rt: HostRuntime) -> Result<(), Fail> {
         let heap = rt.alloc();
         for (first, second) in [(3, 0), (1, 3), (255, 255), (2, 2), (0, 1), (0, 0)] {
-            check_no_plant(&rt, with_gauge(heap, first, second), 7, 1)?;
+            assert_eq!(rt; refused(with_gauge(heap, first, second)), Some((7, 1)));
         }
         for (first, second) in [(1, 2), (2, 1), (2, 0)] {
             assert!(rt; with_gauge(heap, first, second).is_ok());
@@ -194,34 +183,38 @@ mod tests {
             first: 0,
             second: 0,
         }; 13];
-        check_no_plant(&rt, make(heap, 9, 3, &ranges, &rates, &gauges), 1, 0)?;
-        check_no_plant(&rt, make(heap, 2, 3, &ranges, &rates, &gauges), 2, 0)?;
-        check_no_plant(&rt, make(heap, 2, 3, &ranges, &rates, &gauges[0..3]), 2, 1)?;
-        check_no_plant(&rt, make(heap, 2, 1, &ranges, &rates, &gauges[0..3]), 3, 4)?;
-        check_no_plant(
-            &rt,
-            make(heap, 2, 1, &ranges, &rates[0..2], &gauges[0..3]),
-            3,
-            3,
-        )?;
-        check_no_plant(
-            &rt,
-            make(heap, 2, 1, &ranges[0..2], &rates[0..2], &gauges[0..3]),
-            4,
-            1,
-        )?;
-        check_no_plant(
-            &rt,
-            make(heap, 2, 1, &ranges[0..2], &[QUICK; 2], &gauges[0..3]),
-            6,
-            1,
-        )?;
-        check_no_plant(
-            &rt,
-            make(heap, 2, 1, &[HIGH; 2], &[QUICK; 2], &gauges[0..3]),
-            7,
-            0,
-        )?;
+        assert_eq!(rt;
+            refused(make(heap, 9, 3, &ranges, &rates, &gauges)),
+            Some((1, 0))
+        );
+        assert_eq!(rt;
+            refused(make(heap, 2, 3, &ranges, &rates, &gauges)),
+            Some((2, 0))
+        );
+        assert_eq!(rt;
+            refused(make(heap, 2, 3, &ranges, &rates, &gauges[0..3])),
+            Some((2, 1))
+        );
+        assert_eq!(rt;
+            refused(make(heap, 2, 1, &ranges, &rates, &gauges[0..3])),
+            Some((3, 4))
+        );
+        assert_eq!(rt;
+            refused(make(heap, 2, 1, &ranges, &rates[0..2], &gauges[0..3])),
+            Some((3, 3))
+        );
+        assert_eq!(rt;
+            refused(make(heap, 2, 1, &ranges[0..2], &rates[0..2], &gauges[0..3])),
+            Some((4, 1))
+        );
+        assert_eq!(rt;
+            refused(make(heap, 2, 1, &ranges[0..2], &[QUICK; 2], &gauges[0..3])),
+            Some((6, 1))
+        );
+        assert_eq!(rt;
+            refused(make(heap, 2, 1, &[HIGH; 2], &[QUICK; 2], &gauges[0..3])),
+            Some((7, 0))
+        );
         assert!(rt; make(heap, 2, 1, &[HIGH; 2], &[QUICK; 2], &[LEVEL; 3]).is_ok());
         Ok(())
     }
@@ -246,12 +239,10 @@ mod tests {
             (2, 0, 1_000_001, 9, 1),
         ];
         for (gauge, low, high, number, place) in refused {
-            check_refused(
-                &rt,
-                check_reading(3, GaugeReading { gauge, low, high }),
-                number,
-                place,
-            )?;
+            assert_eq!(rt;
+                check_reading(3, GaugeReading { gauge, low, high }).map_err(told),
+                Err((number, place))
+            );
         }
         Ok(())
     }
@@ -267,27 +258,23 @@ mod tests {
         let far = reads(1, 0, 1_000_001);
         let fine = reads(2, 0, 1);
         assert!(rt; check_readings(3, &[fine, Event::Step, fine]).is_ok());
-        check_refused(
-            &rt,
+        assert_eq!(rt;
             check_readings(
                 3,
                 &[turned, Event::Step, far, reads(4, 0, 1), reads(3, 2, 1)],
-            ),
-            8,
-            4,
-        )?;
-        check_refused(
-            &rt,
-            check_readings(3, &[fine, turned, Event::Step, far]),
-            9,
-            0,
-        )?;
-        check_refused(
-            &rt,
-            check_readings(3, &[fine, far, Event::Step, turned]),
-            9,
-            1,
-        )
+            )
+            .map_err(told),
+            Err((8, 4))
+        );
+        assert_eq!(rt;
+            check_readings(3, &[fine, turned, Event::Step, far]).map_err(told),
+            Err((9, 0))
+        );
+        assert_eq!(rt;
+            check_readings(3, &[fine, far, Event::Step, turned]).map_err(told),
+            Err((9, 1))
+        );
+        Ok(())
     }
 
     // The millionth is taken, the next is not.
@@ -295,14 +282,21 @@ mod tests {
     fn steps(rt: HostRuntime) -> Result<(), Fail> {
         assert!(rt; check_step(0).is_ok());
         assert!(rt; check_step(999_999).is_ok());
-        check_refused(&rt, check_step(1_000_000), 11, 1_000_001)?;
-        check_refused(&rt, check_step(u32::MAX), 11, 1_000_001)?;
+        assert_eq!(rt; check_step(1_000_000).map_err(told), Err((11, 1_000_001)));
+        assert_eq!(rt; check_step(u32::MAX).map_err(told), Err((11, 1_000_001)));
         let mut row = vec![in rt.alloc(); Event::Step; 1_000_000]?;
         row.push(reads(9, 2, 1))?;
         assert!(rt; check_steps(row.as_slice()).is_ok());
         row.push(Event::Step)?;
-        check_refused(&rt, check_steps(row.as_slice()), 11, 1_000_001)?;
+        assert_eq!(rt;
+            check_steps(row.as_slice()).map_err(told),
+            Err((11, 1_000_001))
+        );
         row.push(Event::Step)?;
-        check_refused(&rt, check_steps(row.as_slice()), 11, 1_000_001)
+        assert_eq!(rt;
+            check_steps(row.as_slice()).map_err(told),
+            Err((11, 1_000_001))
+        );
+        Ok(())
     }
 }

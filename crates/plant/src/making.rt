@@ -14,10 +14,8 @@ use zones::{Range, Rate};
 fn check_count(gauges: usize, wrong: u32) -> Result<(), Refusal>
     ensures { Found result (refusal_of gauges wrong) }
 {
-    if gauges > faults::MAX_GAUGES as usize {
-        return Err(Refusal::Gauges);
-    }
-    faults::check_limits(gauges as u32, wrong)
+    let gauges = u32::try_from(gauges).map_err(|_| Refusal::Gauges)?;
+    faults::check_limits(gauges, wrong)
 }
 
 // There are rates and a range for each basin.
@@ -38,14 +36,7 @@ fn bad_gauge(basins: usize, gauges: &[Gauge]) -> Option<usize>
     ensures first { result ≡ first_bad (placed basins) 0 gauges.now }
     ensures within { MatchOption result Unit (λ i. i < length gauges.now) }
 {
-    for (i, gauge) in gauges.iter().enumerate() {
-        let first = usize::from(gauge.first);
-        let second = usize::from(gauge.second);
-        if first < 1 || first > basins || second > basins || first == second {
-            return Some(i);
-        }
-    }
-    None
+    gauges.iter().position(|gauge| !gauge.is_placed(basins))
 }
 
 impl Plant {

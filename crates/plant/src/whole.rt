@@ -1,5 +1,5 @@
 // What is known beforehand.
-ghost use Rattle.std.specs.Prelude.{◌≡◌, false, is_some};
+ghost use Rattle.std.specs.Prelude.{◌≡◌, ◌+◌, ◌*◌, false, is_some};
 ghost use Rattle.plant.specs.Checks.{plant_refused};
 
 use crate::kinds::Gauge;
@@ -15,4 +15,14 @@ pub struct Plant {
     pub rates: Vec<Rate>,
     pub gauges: Vec<Gauge>,
     ghost limits: { is_some (plant_refused basins wrong ranges.items rates.items gauges.items) ≡ false },
+}
+
+impl Plant {
+    // How many numbers a zone of its basins has: a bound of each level, and of the datum, over each.
+    pub fn zone_size(&self) -> usize
+        ensures { result ≡ (self.now.basins + 1) * (self.now.basins + 1) }
+    {
+        let width = self.basins + 1;
+        width * width
+    }
 }

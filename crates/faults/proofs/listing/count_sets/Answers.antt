@@ -1,24 +1,15 @@
-use Rattle.std.proofs.Common.{◌≡◌, ◌^◌, leb, ap, ◌∙◌, arith}
+use Rattle.std.proofs.Common.{◌^◌, leb, refl, rules, tests}
 use lib.Count.{ones}
-use Rattle.std.proofs.lemmas.Bool.Decides.{nat_tests}
-use Rattle.theory.specs.History.{count}
-use Rattle.faults.proofs.Tally.{count_more, count_within, number_counted}
+use Rattle.std.proofs.lemmas.Iterator.{YieldsList-from_range}
+use Rattle.std.proofs.lemmas.Iterator.Consumers.{YieldsList-at, YieldsList-from_filter, count_from_yields_List}
+use Rattle.faults.proofs.Bits.{subsets}
+use Rattle.faults.proofs.Tally.{number_counted}
 use Rattle.faults.proofs.listing.count_sets.Goals as goal
-use Rattle.faults.proofs.listing.count_sets.Goals.{then-bits-wrong, else-bits-wrong}
-
-pub overflow_add-found : goal.overflow_add-found
-overflow_add-found c = omega (arith, c.loop-bits.invariant, count_within c.loop-bits.bits (λ m. leb (ones m) c.args.wrong))
-
-pub loop-bits-preserved : goal.loop-bits-preserved
-loop-bits-preserved c =
-    let more = count_more c.loop-bits.bits (λ m. leb (ones m) c.args.wrong) in
-    elim c.if-bits-wrong.branch [
-      | then-bits-wrong w ↦ grind (arith, nat_tests)
-      | else-bits-wrong w ↦ grind (arith, nat_tests)
-    ]
 
 pub returns : goal.returns
 returns c =
-    let end : c.loop-bits.bits ≡ 2 ^ c.args.gauges = omega (arith, c.subsets-end.ensures.value) in
-    number_counted c.args.wrong c.args.gauges c.loop-bits.found
-    (c.loop-bits.invariant ∙ ap (λ n. count n (λ m. leb (ones m) c.args.wrong)) end)
+    number_counted c.args.wrong c.args.gauges c.count.result
+    (count_from_yields_List c.filter.result c.count.result c.count.ensures.ran
+    (YieldsList-from_filter _ (λ m. leb (ones m) c.args.wrong)
+    (YieldsList-at c.filter.ensures.source (YieldsList-from_range 0 _ (2 ^ c.args.gauges) refl (subsets c.args.gauges c.requires)))
+    c.filter.ensures.closure (λ x b q k. search (rules, tests))))

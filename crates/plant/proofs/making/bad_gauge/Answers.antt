@@ -1,22 +1,12 @@
-use Rattle.std.proofs.Common.{refl, arith}
-use Rattle.std.proofs.lemmas.Bool.Decides.{nat_tests}
-use Rattle.refusal.proofs.Firsts.{here, next, done}
+use Rattle.std.proofs.Common.{◌∙◌, not, sym, rules, tests}
+use Rattle.std.proofs.lemmas.Iterator.{YieldsList-from_slice}
+use Rattle.std.proofs.lemmas.Iterator.Search.{position_from_yields_List}
+use Rattle.refusal.proofs.Firsts.{first_position}
 use Rattle.plant.specs.Checks.{placed}
 use Rattle.plant.proofs.making.bad_gauge.Goals as goal
 
-pub loop-i-init : goal.loop-i-init
-loop-i-init c = refl
-
-pub loop-i-preserved : goal.loop-i-preserved
-loop-i-preserved c = next (placed c.args.basins) _ c.loop-i.i (record { first = 0; second = 0 })
-    c.loop-i-test.true c.loop-i.invariant (grind (arith, nat_tests))
-
-pub returns : goal.returns
-returns c = record { first = done (placed c.args.basins) _ _ c.loop-i-test.false c.loop-i.invariant; within = tt }
-
-pub returns-then-first-lt1 : goal.returns-then-first-lt1
-returns-then-first-lt1 c = record {
-  first = here (placed c.args.basins) _ c.loop-i.i (record { first = 0; second = 0 })
-      c.loop-i-test.true c.loop-i.invariant (grind (arith, nat_tests));
-  within = c.loop-i-test.true;
-}
+pub returns-clause-first : goal.returns-clause-first
+returns-clause-first c =
+    position_from_yields_List (λ g. not (placed c.args.basins g)) _ _ c.position.result c.position.ensures.ran
+    (YieldsList-from_slice c.args.gauges.now cc) (λ x b q k. search (rules, tests))
+    ∙ sym (first_position (placed c.args.basins) c.args.gauges.now)
