@@ -30,8 +30,6 @@ pub fn is_empty(basins: usize, zone: &[i64]) -> Result<bool, Refusal>
 }
 
 // Over a million steps and any readings no number of a zone becomes so large that a step or a reading is not exact.
-pub fn sizes_stand() -> u8
+pub fn sizes_stand()
     ensures { SizesHold }
-{
-    0
-}
+{}
