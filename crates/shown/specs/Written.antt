@@ -24,10 +24,10 @@ written_alarm alarm.Off = codes "off"
 written_alarm alarm.On = codes "on"
 written_alarm alarm.Sure = codes "sure"
 
--- Numbers, parted by blanks, or `none` where there are none.
 abbrev pub blank_number : ℕ → List ℕ
 blank_number n = codes " " ++ decimal n
 
+-- Numbers, parted by blanks, or `none` where there are none.
 abbrev pub written_numbers : List ℕ → List ℕ
 written_numbers [] = codes "none"
 written_numbers (n ∷ rest) = decimal n ++ flat_map blank_number rest
