@@ -4,7 +4,7 @@ ghost use Rattle.draft.specs.Noted.{NoteSays, Turns, blank, kept, kept_basin, no
 
 use crate::errors::{DraftError, Item};
 use crate::kinds::{BASINS, Draft, Lined, PLACES};
-use crate::numbers::{basin_index, clamp_u8, clamp_u32};
+use crate::numbers::{basin_index, clamp};
 use entries::Entry;
 use plant::Gauge;
 use zones::{Range, Rate};
@@ -60,7 +60,7 @@ impl Draft {
         if index < PLACES {
             return keep(&mut self.places[index], Item::Gauge(gauge), place);
         }
-        let number = clamp_u32(gauge);
+        let number = clamp(gauge, u32::MAX);
         let smallest = self.past.map_or(number, |past| past.min(number));
         self.past = Some(smallest);
         Ok(())
@@ -71,21 +71,21 @@ impl Draft {
         ensures { NoteSays line entry self.old self.new result }
     {
         match entry {
-            Entry::Basins(count) => keep(&mut self.basins, Item::Basins, clamp_u32(count)),
-            Entry::Gauges(count) => keep(&mut self.gauges, Item::Gauges, clamp_u32(count)),
-            Entry::Wrong(count) => keep(&mut self.wrong, Item::Wrong, clamp_u32(count)),
+            Entry::Basins(count) => keep(&mut self.basins, Item::Basins, clamp(count, u32::MAX)),
+            Entry::Gauges(count) => keep(&mut self.gauges, Item::Gauges, clamp(count, u32::MAX)),
+            Entry::Wrong(count) => keep(&mut self.wrong, Item::Wrong, clamp(count, u32::MAX)),
             Entry::Range { basin, least, most } => {
                 let value = Range {
-                    least: clamp_u32(least),
-                    most: clamp_u32(most),
+                    least: clamp(least, u32::MAX),
+                    most: clamp(most, u32::MAX),
                 };
                 let said = Lined { line, value };
                 keep_basin(&mut self.ranges, Item::Range(basin), basin, said)
             }
             Entry::Rate { basin, rise, fall } => {
                 let value = Rate {
-                    rise: clamp_u32(rise),
-                    fall: clamp_u32(fall),
+                    rise: clamp(rise, u32::MAX),
+                    fall: clamp(fall, u32::MAX),
                 };
                 let said = Lined { line, value };
                 keep_basin(&mut self.rates, Item::Rate(basin), basin, said)
@@ -95,8 +95,8 @@ impl Draft {
                 first,
                 second,
             } => {
-                let first = clamp_u8(first);
-                let second = clamp_u8(second);
+                let first = clamp(first, u8::MAX);
+                let second = clamp(second, u8::MAX);
                 self.note_gauge(gauge, Gauge { first, second })
             }
             Entry::Step | Entry::Read { .. } | Entry::Show | Entry::Alarm { .. } => {

@@ -1,21 +1,17 @@
 // Numbers of a line as a plant has them.
-ghost use Rattle.std.specs.Prelude.{◌≡◌, ◌<◌, MatchOption};
-ghost use Rattle.draft.specs.Numbers.{basin_index, byte, word};
+ghost use Rattle.std.specs.Prelude.{◌≡◌, ◌<◌, MatchOption, Result};
+ghost use Rattle.draft.specs.Numbers.{basin_index};
+ghost use Rattle.std.specs.Result.{result_unwrap_or};
 
 use crate::kinds::BASINS;
 
-// The number itself, or the largest u32 where it fits none.
-pub fn clamp_u32(number: i64) -> u32
-    ensures { result ≡ word number }
+// The number itself, or the largest where it fits none.
+pub fn clamp<T: TryFrom<i64> + Drop>(number: i64, largest: T) -> T
+where
+    T::Error: Drop,
+    ensures { (r : Result T T.Error) × T.try_from_gives number r × (result ≡ result_unwrap_or r largest) }
 {
-    u32::try_from(number).unwrap_or(u32::MAX)
-}
-
-// The number itself, or the largest u8 where it fits none.
-pub fn clamp_u8(number: i64) -> u8
-    ensures { result ≡ byte number }
-{
-    u8::try_from(number).unwrap_or(u8::MAX)
+    T::try_from(number).unwrap_or(largest)
 }
 
 // The index of a basin that a plant can have.
