@@ -1,6 +1,7 @@
--- The turns of a loop that looks for the first element that fails a test. Assumes nothing.
-use Rattle.std.proofs.Common.{◌≡◌, ℕ, zero, suc, ◌+◌, ◌<◌, ◌≤◌, Bool, true, false, cond, List, [], ◌∷◌, length, get_or, drop, Some, None, Option, sym, refl, ap, ◌∙◌, arith}
+-- The first element that fails a test: how a library search and the turns of a loop find it. Assumes nothing.
+use Rattle.std.proofs.Common.{◌≡◌, ℕ, zero, suc, ◌+◌, ◌<◌, ◌≤◌, Bool, true, false, cond, nat_lt, not, List, [], ◌∷◌, length, get_or, drop, Some, None, Option, sym, refl, ap, ◌∙◌, arith}
 use Rattle.std.proofs.lemmas.List.{drop_more, drop_all}
+use Rattle.std.specs.List.{position, position_or_len}
 use Rattle.refusal.specs.Order.{or_else, first_bad, first_of}
 
 module _ {A : Type 0} (ok : A → Bool) (xs : List A) where
@@ -34,6 +35,21 @@ pub each : {A : Type 0} (ok : A → Bool) (i : ℕ) (xs : List A) (k : ℕ) (d :
 each ok i [] k d e h = absurd (omega arith)
 each ok i (x ∷ xs) zero d e h = (passes (ok x) (first_bad ok (i + 1) xs) i e).0
 each ok i (x ∷ xs) (suc k) d e h = each ok (i + 1) xs k d (passes (ok x) (first_bad ok (i + 1) xs) i e).1 (omega arith)
+
+-- ---- the first that fails a test is the first that passes its opposite
+counted : (b : Bool) (o : Option ℕ) (i n m : ℕ) → o ≡ cond (nat_lt n m) (Some (i + 1 + n)) None →
+    cond b o (Some i) ≡ cond (nat_lt (cond (not (not b)) (1 + n) 0) (suc m)) (Some (i + cond (not (not b)) (1 + n) 0)) None
+counted true o i n m e = e ∙ grind arith
+counted false o i n m e = grind arith
+
+first_from : {A : Type 0} (ok : A → Bool) (i : ℕ) (xs : List A) → first_bad ok i xs
+    ≡ cond (nat_lt (position_or_len (λ x. not (ok x)) xs) (length xs)) (Some (i + position_or_len (λ x. not (ok x)) xs)) None
+first_from ok i [] = refl
+first_from ok i (x ∷ xs) =
+    counted (ok x) (first_bad ok (i + 1) xs) i (position_or_len (λ y. not (ok y)) xs) (length xs) (first_from ok (i + 1) xs)
+
+pub first_position : {A : Type 0} (ok : A → Bool) (xs : List A) → first_bad ok 0 xs ≡ position (λ x. not (ok x)) xs
+first_position ok xs = first_from ok 0 xs ∙ ap (λ k. cond (nat_lt (position_or_len (λ x. not (ok x)) xs) (length xs)) (Some k) None) (grind arith)
 
 -- ---- the same for the first finding
 module _ {A B : Type 0} (f : A → Option B) (xs : List A) where

@@ -1,12 +1,13 @@
 // Why nothing was made.
-ghost use Rattle.std.specs.Prelude.{◌≡◌};
+ghost use Rattle.std.specs.Prelude.{◌≡◌, Some};
 ghost use Rattle.refusal.specs.declared.failure.Failure.TheVariants.{NoMemory, Refused};
+ghost use Rattle.refusal.specs.Written.{written_failure};
 
 use crate::kinds::Refusal;
 use std::alloc::AllocError;
 use std::fmt;
 
-#[derive(Clone, Copy)]
+#[derive(Clone, Copy, PartialEq, Eq, Debug)]
 pub enum Failure {
     // turned away by a check
     Refused(Refusal),
@@ -14,10 +15,12 @@ pub enum Failure {
     NoMemory,
 }
 
-impl fmt::Debug for Failure {
+impl fmt::Display for Failure {
+    ghost output = { λ e. Some (written_failure e) };
+
     fn fmt<W: fmt::Write>(&self, f: &mut fmt::Formatter<W>) -> fmt::Result {
-        match self {
-            Failure::Refused(e) => write!(f, "refused: {} at {}", e.number(), e.place()),
+        match *self {
+            Failure::Refused(refusal) => write!(f, "{refusal}"),
             Failure::NoMemory => write!(f, "no memory"),
         }
     }

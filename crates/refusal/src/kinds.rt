@@ -1,6 +1,6 @@
 // A refusal of each kind, with its place where that is not fixed by the kind. Where several apply, the first of this order
 // is given, and of one kind the one with the smallest place.
-#[derive(Clone, Copy, Debug)]
+#[derive(Clone, Copy, PartialEq, Eq, Debug)]
 pub enum Refusal {
     // 1: fewer than 1 basin, or more than 8
     Basins,

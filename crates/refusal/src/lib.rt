@@ -1,14 +1,16 @@
 // What is turned away: one enum for the whole repository. What is refused changes nothing.
 #![tactic(auto)]
 
-ghost use Rattle.std.specs.Prelude.{◌≡◌};
+ghost use Rattle.std.specs.Prelude.{◌≡◌, Some};
 ghost use Rattle.refusal.specs.Number.{number_of, place_of};
+ghost use Rattle.refusal.specs.Written.{written_refusal};
 
 mod failure;
 mod kinds;
 
 pub use failure::Failure;
 pub use kinds::Refusal;
+use std::fmt;
 
 impl Refusal {
     // The number by which a refusal is known to users.
@@ -48,9 +50,19 @@ impl Refusal {
     }
 }
 
+// As users see it.
+impl fmt::Display for Refusal {
+    ghost output = { λ e. Some (written_refusal e) };
+
+    fn fmt<W: fmt::Write>(&self, f: &mut fmt::Formatter<W>) -> fmt::Result {
+        write!(f, "refused {} {}", self.number(), self.place())
+    }
+}
+
 #[cfg(test)]
 mod tests {
     use super::*;
+    use std::test::Fail;
 
     #[test]
     fn numbers_and_places(rt: HostRuntime) {
@@ -77,5 +89,17 @@ mod tests {
             assert_eq!(rt; refusal.number(), number);
             assert_eq!(rt; refusal.place(), place);
         }
+    }
+
+    #[test]
+    fn words(rt: HostRuntime) -> Result<(), Fail> {
+        let heap = rt.alloc();
+        assert_eq!(rt; Refusal::Length(5).to_string(heap)?.as_str(), "refused 3 5");
+        assert_eq!(rt;
+            Failure::Refused(Refusal::Wrong).to_string(heap)?.as_str(),
+            "refused 2 1"
+        );
+        assert_eq!(rt; Failure::NoMemory.to_string(heap)?.as_str(), "no memory");
+        Ok(())
     }
 }

@@ -9,134 +9,96 @@ ghost use Rattle.theory.specs.Promise.{AllShown, AlwaysKept, LessPossible, Namin
 ghost use Rattle.theory.specs.Promise.{OrderFree, Sharpest, StaysSo, WrongOrBlamed};
 
 // Each bound of a canonical zone is reached by levels of the zone.
-pub fn reached_stands() -> u8
+pub fn reached_stands()
     ensures { Reached }
-{
-    0
-}
+{}
 
 // Where a canonical zone has no bound, its levels are as far apart as you like.
-pub fn unbounded_stands() -> u8
+pub fn unbounded_stands()
     ensures { Unbounded }
-{
-    0
-}
+{}
 
 // Canonical zones with the same levels have the same bounds.
-pub fn unique_stands() -> u8
+pub fn unique_stands()
     ensures { Unique }
-{
-    0
-}
+{}
 
 // The first zone is canonical, and has just the levels within the ranges.
-pub fn first_stands() -> u8
+pub fn first_stands()
     ensures { First }
-{
-    0
-}
+{}
 
 // To meet a bound takes away just the levels at which it does not hold.
-pub fn meeting_stands() -> u8
+pub fn meeting_stands()
     ensures { Meeting }
-{
-    0
-}
+{}
 
 // To meet a reading takes away just the levels at which it is wrong.
-pub fn meeting_reading_stands() -> u8
+pub fn meeting_reading_stands()
     ensures { MeetingReading }
-{
-    0
-}
+{}
 
 // To replace a bound by the sum through a third number keeps the levels.
-pub fn relaxing_stands() -> u8
+pub fn relaxing_stands()
     ensures { Relaxing }
-{
-    0
-}
+{}
 
 // After the turns through all numbers a zone is closed, or a number is below itself and there are no levels.
-pub fn closing_stands() -> u8
+pub fn closing_stands()
     ensures { Closing }
-{
-    0
-}
+{}
 
 // A step takes the levels of a zone to just those of the widened zone.
-pub fn widening_stands() -> u8
+pub fn widening_stands()
     ensures { Widening }
-{
-    0
-}
+{}
 
 // For every list of events and every fault set the computed zone has just the ends of the histories.
-pub fn always_kept_stands() -> u8
+pub fn always_kept_stands()
     ensures { AlwaysKept }
-{
-    0
-}
+{}
 
 // What is possible by wrong gauges is possible by fault sets, and the other way round.
-pub fn wrong_or_blamed_stands() -> u8
+pub fn wrong_or_blamed_stands()
     ensures { WrongOrBlamed }
-{
-    0
-}
+{}
 
 // What is computed over all fault sets is the upper end over all possible levels.
-pub fn all_shown_stands() -> u8
+pub fn all_shown_stands()
     ensures { AllShown }
-{
-    0
-}
+{}
 
 // No bound that holds in all possible levels is smaller than their upper end.
-pub fn sharpest_stands() -> u8
+pub fn sharpest_stands()
     ensures { Sharpest }
-{
-    0
-}
+{}
 
 // A gauge is named exactly if it is wrong in all histories.
-pub fn naming_stands() -> u8
+pub fn naming_stands()
     ensures { Naming }
-{
-    0
-}
+{}
 
 // That there is no history is said exactly if there is none.
-pub fn no_history_stands() -> u8
+pub fn no_history_stands()
     ensures { NoHistory }
-{
-    0
-}
+{}
 
 // Where nothing is possible, nothing is after any further event.
-pub fn stays_so_stands() -> u8
+pub fn stays_so_stands()
     ensures { StaysSo }
-{
-    0
-}
+{}
 
 // A further reading never makes anything possible.
-pub fn less_possible_stands() -> u8
+pub fn less_possible_stands()
     ensures { LessPossible }
-{
-    0
-}
+{}
 
 // Between two steps the order of readings makes no difference.
-pub fn order_free_stands() -> u8
+pub fn order_free_stands()
     ensures { OrderFree }
-{
-    0
-}
+{}
 
 // The worked example: what is possible, and who is wrong, after its events.
-pub fn worked_example_stands() -> u8
+pub fn worked_example_stands()
     ensures { WorkedExample }
-{
-    0
-}
+{}
