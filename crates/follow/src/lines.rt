@@ -1,92 +1,71 @@
 // Lines from any input, read and answered one by one.
-ghost use Rattle.std.specs.Prelude.{◌≡◌, ◌+◌, ◌≤◌, IfOk, Err, IsUtf8};
+ghost use Rattle.std.specs.Prelude.{◌≡◌, IfOk, OnOk, Err, IsUtf8};
 ghost use Rattle.text.specs.declared.error.LineError.TheVariants.{NotText};
 ghost use Rattle.text.specs.Lines.{Parses};
-ghost use Rattle.follow.specs.Counted.{Noted};
+ghost use Rattle.follow.specs.Counted.{After, Noted, Once};
+ghost use Rattle.console.specs.Lines.{Next};
 
 use crate::counts::Counts;
+use console::{Console, Halt, TakeLines};
 use std::alloc::Global;
-use std::io::{BufRead, BufReader, Read, Write};
-use std::{fmt, io};
+use std::io::{Read, Write};
 use text::{Entry, LineError};
-
-// Why following ended before the input did.
-#[derive(Drop)]
-pub enum Halt {
-    Reading(io::Error),
-    Writing(io::Error),
-}
-
-impl fmt::Display for Halt {
-    fn fmt<W: fmt::Write>(&self, f: &mut fmt::Formatter<W>) -> fmt::Result {
-        match self {
-            Halt::Reading(e) => write!(f, "cannot read: {e}"),
-            Halt::Writing(e) => write!(f, "cannot write: {e}"),
-        }
-    }
-}
 
 // Bytes that are no UTF-8 are no line.
 fn read_line(bytes: &[u8]) -> Result<Option<Entry>, LineError<'_>>
     ensures text { IsUtf8 bytes.now → Parses bytes.now result }
     ensures other { (IsUtf8 bytes.now → ⊥) → result ≡ Err NotText }
 {
-    match std::str::from_utf8(bytes) {
-        Ok(line) => text::parse(line),
-        Err(_) => Err(LineError::NotText),
-    }
+    let line = std::str::from_utf8(bytes).map_err(|_| LineError::NotText)?;
+    text::parse(line)
 }
 
-// Counts one line, and prints its answer or what is wrong with it.
-fn take<O: Write, E: Write>(
-    counts: &mut Counts,
-    bytes: &[u8],
-    out: &mut O,
-    err: &mut E,
-) -> io::Result<()>
-    ensures { Noted bytes.now counts.old counts.new }
-{
-    let reading = read_line(bytes);
-    counts.note(&reading);
-    match reading {
-        Ok(Some(Entry::Show)) => {
-            let answer = *counts;
-            writeln!(out, "{answer}")?;
-            out.flush()
+// The program's state, and where it answers.
+#[derive(Drop)]
+struct Follower<O, E> {
+    counts: Counts,
+    console: Console<O, E>,
+}
+
+impl<O: Write, E: Write> TakeLines for Follower<O, E> {
+    type Halt = Halt;
+
+    ghost after = { λ n f. After n f.counts };
+
+    // Counts one line, and prints its answer or what is wrong with it.
+    fn take(&mut self, line: &[u8]) -> Result<(), Halt>
+        ensures noted { Noted line.now self.old.counts self.new.counts }
+        ensures next { OnOk result (Next (λ n f. After n f.counts) self.old self.new) }
+    {
+        let reading = read_line(line);
+        self.counts.note(&reading);
+        match reading {
+            Ok(Some(Entry::Show)) => {
+                let answer = self.counts;
+                writeln!(self.console.out, "{answer}")?;
+            }
+            Ok(_) => return Ok(()),
+            Err(fault) => self.console.complain(self.counts.lines, fault)?,
         }
-        Ok(_) => Ok(()),
-        Err(fault) => {
-            let number = counts.lines;
-            writeln!(err, "line {number}: {fault}")?;
-            err.flush()
-        }
+        self.console.flush()?;
+        Ok(())
     }
 }
 
 // Follows the input to its end, and answers what was read: no line counts twice.
-pub fn follow<R: Read + Drop, O: Write, E: Write>(
+pub fn follow<R: Read + Drop, O: Write + Drop, E: Write + Drop>(
     heap: Global,
     from: R,
-    out: &mut O,
-    err: &mut E,
+    console: Console<O, E>,
 ) -> Result<Counts, Halt>
-    ensures { IfOk result (λ c. c.steps + c.readings + c.refused ≤ c.lines) }
+    ensures { IfOk result Once }
 {
-    let mut input = BufReader::new(heap, from).map_err(Halt::Reading)?;
-    let mut line = Vec::new(heap);
-    let mut counts = Counts::new();
-    for _turn in 0..u64::MAX {
-        line.clear();
-        match input.read_until(b'\n', &mut line) {
-            Ok(0) => break,
-            Ok(_) => {}
-            Err(e) => return Err(Halt::Reading(e)),
-        }
-        if let Err(e) = take(&mut counts, line.as_slice(), out, err) {
-            return Err(Halt::Writing(e));
-        }
-    }
-    Ok(counts)
+    let mut follower = Follower {
+        counts: Counts::new(),
+        console,
+    };
+    console::take_lines(heap, from, &mut follower)?;
+    Ok(follower.counts)
 }
 
 #[cfg(test)]
@@ -103,9 +82,12 @@ mod tests {
     ) -> Result<(), Fail> {
         let mut out = Vec::new(rt.alloc());
         let mut err = Vec::new(rt.alloc());
-        match follow(rt.alloc(), input, &mut out, &mut err) {
-            Ok(_) => {}
-            Err(_) => return Err(Fail::new("halted")),
+        let console = Console {
+            out: &mut out,
+            err: &mut err,
+        };
+        if follow(rt.alloc(), input, console).is_err() {
+            return Err(Fail::new("halted"));
         }
         assert!(rt; out.as_slice() == answers);
         assert!(rt; err.as_slice() == faults);

@@ -1,7 +1,7 @@
 // What the command line asks for.
 ghost use Rattle.std.specs.Prelude.{◌≡◌, true, is_some, Some, None, string_bytes, codes, String as Text, ◌≢◌};
 ghost use Rattle.std.specs.declared.alloc.Global.{Global};
-ghost use Rattle.follow.specs.Counted.{Alone};
+ghost use Rattle.console.specs.Calls.{Alone};
 
 #[derive(Drop)]
 pub enum Call {
@@ -19,17 +19,10 @@ pub fn choose(first: Option<String>, second: Option<String>) -> Call
     ensures help { (s : Text Global) → Alone s first second → string_bytes s ≡ codes "--help" → result ≡ Call.Help }
     ensures file { (s : Text Global) → Alone s first second → (string_bytes s ≢ codes "--help") → result ≡ Call.File s }
 {
-    if second.is_some() {
-        return Call::Misused;
-    }
     match first {
+        _ if second.is_some() => Call::Misused,
         None => Call::Input,
-        Some(word) => {
-            if word.as_str() == "--help" {
-                Call::Help
-            } else {
-                Call::File(word)
-            }
-        }
+        Some(word) if word.as_str() == "--help" => Call::Help,
+        Some(word) => Call::File(word),
     }
 }
