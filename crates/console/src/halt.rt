@@ -13,8 +13,8 @@ pub enum Halt {
 impl fmt::Display for Halt {
     fn fmt<W: fmt::Write>(&self, f: &mut fmt::Formatter<W>) -> fmt::Result {
         match self {
-            Halt::Reading(e) => write!(f, "cannot read: {e}"),
-            Halt::Writing(e) => write!(f, "cannot write: {e}"),
+            Halt::Reading(error) => write!(f, "cannot read: {error}"),
+            Halt::Writing(error) => write!(f, "cannot write: {error}"),
         }
     }
 }

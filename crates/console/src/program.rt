@@ -37,6 +37,12 @@ pub trait Program {
 // The process ends with status 1; what went wrong has been printed.
 struct Failed;
 
+// Tells what went wrong. That it cannot be told is told by the status.
+fn fail<D: fmt::Display + Drop>(rt: &HostRuntime, what: D) -> Failed {
+    let _ = eprintln!(rt; "{what}");
+    Failed
+}
+
 // Follows one input. It is done well only if every line could be taken.
 fn run<P: Program, R: Read + Drop>(
     rt: &HostRuntime,
@@ -46,35 +52,21 @@ fn run<P: Program, R: Read + Drop>(
     ensures { IfOk result P.clean }
 {
     let program = P::NAME;
-    let from = match input {
-        Ok(from) => from,
-        Err(e) => {
-            let _ = eprintln!(rt; "{program}: {name}: cannot open: {e}");
-            return Err(Failed);
-        }
-    };
+    let from =
+        input.map_err(|e| fail(rt, format_args!("{program}: {name}: cannot open: {e}")))?;
     match P::follow(rt, from) {
         Ok(counts) if P::is_clean(&counts) => Ok(counts),
         Ok(_) => Err(Failed),
-        Err(halt) => {
-            if !P::is_told(&halt) {
-                let _ = eprintln!(rt; "{program}: {name}: {halt}");
-            }
-            Err(Failed)
-        }
+        Err(halt) if P::is_told(&halt) => Err(Failed),
+        Err(halt) => Err(fail(rt, format_args!("{program}: {name}: {halt}"))),
     }
 }
 
 // Does what the command line asks for.
 fn obey<P: Program>(rt: &HostRuntime) -> Result<(), Failed> {
-    let mut args = match env::args(rt) {
-        Ok(args) => args,
-        Err(e) => {
-            let program = P::NAME;
-            let _ = eprintln!(rt; "{program}: arguments: {e}");
-            return Err(Failed);
-        }
-    };
+    let program = P::NAME;
+    let mut args =
+        env::args(rt).map_err(|e| fail(rt, format_args!("{program}: arguments: {e}")))?;
     let _ = args.next();
     let first = args.next();
     match choose(first, args.next()) {
@@ -88,11 +80,7 @@ fn obey<P: Program>(rt: &HostRuntime) -> Result<(), Failed> {
         Call::File(path) => {
             run::<P, _>(rt, path.as_str(), File::open(rt, path.as_str()))?;
         }
-        Call::Misused => {
-            let usage = P::USAGE;
-            let _ = eprintln!(rt; "{usage}");
-            return Err(Failed);
-        }
+        Call::Misused => return Err(fail(rt, P::USAGE)),
     }
     Ok(())
 }
