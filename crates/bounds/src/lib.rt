@@ -6,7 +6,8 @@ ghost use Rattle.std.specs.Int.{int_min};
 ghost use Rattle.theory.specs.Bound.{NoLarger, sum, sharper};
 ghost use Rattle.bounds.specs.Meaning.{bound_of, total_sum, Moderate};
 
-// Stands for no bound. It is the largest i64, so that numbers are ordered as the bounds that they stand for.
+// Stands for no bound: zones are lent as plain i64, which leaves no room for an Option. It is the largest, so that numbers are
+// ordered as the bounds that they stand for.
 pub const NONE: i64 = i64::MAX;
 
 // What two bounds, one after the other, say of the first level and the last. Where the exact sum does not fit, it gives

@@ -52,8 +52,7 @@ fn run<P: Program, R: Read + Drop>(
     ensures { IfOk result P.clean }
 {
     let program = P::NAME;
-    let from =
-        input.map_err(|e| fail(rt, format_args!("{program}: {name}: cannot open: {e}")))?;
+    let from = input.map_err(|e| fail(rt, format_args!("{program}: {name}: cannot open: {e}")))?;
     match P::follow(rt, from) {
         Ok(counts) if P::is_clean(&counts) => Ok(counts),
         Ok(_) => Err(Failed),
@@ -65,8 +64,7 @@ fn run<P: Program, R: Read + Drop>(
 // Does what the command line asks for.
 fn obey<P: Program>(rt: &HostRuntime) -> Result<(), Failed> {
     let program = P::NAME;
-    let mut args =
-        env::args(rt).map_err(|e| fail(rt, format_args!("{program}: arguments: {e}")))?;
+    let mut args = env::args(rt).map_err(|e| fail(rt, format_args!("{program}: arguments: {e}")))?;
     let _ = args.next();
     let first = args.next();
     match choose(first, args.next()) {

@@ -5,8 +5,8 @@ ghost use Rattle.draft.specs.Noted.{NoteSays, Turns, blank, kept, kept_basin, no
 use crate::errors::{DraftError, Item};
 use crate::kinds::{BASINS, Draft, Lined, PLACES};
 use crate::numbers::{basin_index, clamp};
-use entries::Entry;
 use plant::Gauge;
+use text::Entry;
 use zones::{Range, Rate};
 
 // Keeps what is said for the first time.

@@ -1,7 +1,5 @@
 // Lines from any input, read and answered one by one.
-ghost use Rattle.std.specs.Prelude.{◌≡◌, IfOk, OnOk, Err, IsUtf8};
-ghost use Rattle.text.specs.declared.error.LineError.TheVariants.{NotText};
-ghost use Rattle.text.specs.Lines.{Parses};
+ghost use Rattle.std.specs.Prelude.{◌≡◌, IfOk, OnOk};
 ghost use Rattle.follow.specs.Counted.{After, Noted, Once};
 ghost use Rattle.console.specs.Lines.{Next};
 
@@ -9,16 +7,7 @@ use crate::counts::Counts;
 use console::{Console, Halt, TakeLines};
 use std::alloc::Global;
 use std::io::{Read, Write};
-use text::{Entry, LineError};
-
-// Bytes that are no UTF-8 are no line.
-fn read_line(bytes: &[u8]) -> Result<Option<Entry>, LineError<'_>>
-    ensures text { IsUtf8 bytes.now → Parses bytes.now result }
-    ensures other { (IsUtf8 bytes.now → ⊥) → result ≡ Err NotText }
-{
-    let line = std::str::from_utf8(bytes).map_err(|_| LineError::NotText)?;
-    text::parse(line)
-}
+use text::{Entry, Format};
 
 // The program's state, and where it answers.
 #[derive(Drop)]
@@ -37,7 +26,7 @@ impl<O: Write, E: Write> TakeLines for Follower<O, E> {
         ensures noted { Noted line.now self.old.counts self.new.counts }
         ensures next { OnOk result (Next (λ n f. After n f.counts) self.old self.new) }
     {
-        let reading = read_line(line);
+        let reading = text::parse_bytes(line, Format::WithoutAlarms);
         self.counts.note(&reading);
         match reading {
             Ok(Some(Entry::Show)) => {

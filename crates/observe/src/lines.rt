@@ -1,7 +1,5 @@
 // Lines from any input, read and answered one by one.
-ghost use Rattle.std.specs.Prelude.{◌≡◌, true, IfOk, Err, IsUtf8, OnOk};
-ghost use Rattle.entries.specs.declared.error.LineError.TheVariants.{NotText};
-ghost use Rattle.entries.specs.Lines.{Parses};
+ghost use Rattle.std.specs.Prelude.{◌≡◌, true, IfOk, OnOk};
 ghost use Rattle.observe.specs.Counted.{After, Once};
 ghost use Rattle.console.specs.Lines.{Next};
 ghost use Rattle.observe.specs.Followed.{Entered, LineSays, Ready};
@@ -12,12 +10,12 @@ use crate::halt::Halt;
 use crate::kinds::{Answer, Stage};
 use console::{Console, TakeLines};
 use draft::{PlantError, Stray};
-use entries::{Entry, LineError};
 use refusal::Failure;
 use std::alloc::Global;
 use std::io;
 use std::io::{Read, Write};
 use table::Observer;
+use text::{Entry, Format};
 
 // What the level of a basin can be.
 fn tell_basin<O: Write>(observer: &Observer, basin: u32, out: &mut O) -> io::Result<()> {
@@ -68,15 +66,6 @@ fn tell_strays<O: Write, E: Write>(
         console.complain(stray.line, *stray)?;
     }
     console.flush()
-}
-
-// Bytes that are no UTF-8 are no line.
-fn read_line(bytes: &[u8]) -> Result<Option<Entry>, LineError<'_>>
-    ensures text { IsUtf8 bytes.now → Parses bytes.now result }
-    ensures other { (IsUtf8 bytes.now → ⊥) → result ≡ Err NotText }
-{
-    let line = std::str::from_utf8(bytes).map_err(|_| LineError::NotText)?;
-    entries::parse(line)
 }
 
 // The program's state, and where it answers: refusals and what is shown on `out`, what is wrong with a line on `err`.
@@ -152,7 +141,7 @@ impl<O: Write, E: Write> TakeLines for Session<O, E> {
         ensures next { OnOk result (Next (λ n s. After n s.follower.counts) self.old self.new) }
     {
         self.follower.counts.line();
-        match read_line(line) {
+        match text::parse_bytes(line, Format::WithAlarms) {
             Ok(Some(entry)) => self.enter(entry)?,
             Ok(None) => {}
             Err(fault) => {

@@ -27,7 +27,7 @@ use Rattle.faults.specs.Sets.{gauge_set, Few, Lists}
 use Rattle.faults.proofs.Represent.{of_listed_sets, few_gauges}
 use Rattle.table.specs.Parts.{part}
 use Rattle.table.specs.Tracks.{AtRest, Follows}
-use Rattle.shown.proofs.Counting.{larger_none}
+use Rattle.shown.proofs.Zones.{larger_none}
 use Rattle.shown.specs.Computed.{without_levels, larger, largest, all_without, in_each}
 
 and_both : (a b : Bool) → (a && b) ≡ true → (a ≡ true) × (b ≡ true)

@@ -2,6 +2,8 @@
 // Without ROUNDS it prints what a few rounds leave; bench/zones.rs, the same in plain Rust, must print the same.
 #![tactic(auto)]
 
+use anyhow::anyhow;
+use refusal::Refusal;
 use std::env;
 use std::time::Instant;
 use zones::{Range, Rate, Reading};
@@ -9,6 +11,13 @@ use zones::{Range, Rate, Reading};
 const BASINS: usize = 8;
 
 const NUMBERS: usize = 81;
+
+const RATES: [Rate; BASINS] = [Rate { rise: 3, fall: 2 }; BASINS];
+
+const RANGES: [Range; BASINS] = [Range {
+    least: 100,
+    most: 900,
+}; BASINS];
 
 // Reading k is of a basin alone, or of it and the next.
 fn reading(k: usize) -> Reading {
@@ -30,111 +39,97 @@ fn reading(k: usize) -> Reading {
     }
 }
 
+fn first_zone() -> Result<[i64; NUMBERS], Refusal> {
+    let mut zone = [0; NUMBERS];
+    zones::set_first(BASINS, &RANGES, &mut zone)?;
+    Ok(zone)
+}
+
 // The zone of the start, and twelve readings met without a closing: work for one.
-fn rough_zone() -> [i64; NUMBERS] {
-    let mut zone = first_zone();
-    for k in 0..12 {
-        let Reading {
-            first,
-            second,
-            low: _,
-            high,
-        } = reading(k);
-        let at = usize::from(first) * 9 + usize::from(second);
-        if at < NUMBERS {
-            zone[at] = bounds::sharper(zone[at], high);
+fn rough_zone() -> Result<[i64; NUMBERS], Refusal> {
+    let mut zone = first_zone()?;
+    for met in (0..12).map(reading) {
+        let at = usize::from(met.first) * 9 + usize::from(met.second);
+        if let Some(bound) = zone.get_mut(at) {
+            *bound = bounds::sharper(*bound, met.high);
         }
     }
-    zone
+    Ok(zone)
 }
 
-fn first_zone() -> [i64; NUMBERS] {
-    let mut zone = [0; NUMBERS];
-    let _ = zones::set_first(
-        BASINS,
-        &[Range {
-            least: 100,
-            most: 900,
-        }; BASINS],
-        &mut zone,
-    );
-    zone
+fn closed_zone() -> Result<[i64; NUMBERS], Refusal> {
+    let mut zone = rough_zone()?;
+    zones::close(BASINS, &mut zone)?;
+    Ok(zone)
 }
 
-// What is left, so that no round can be left out.
-fn trace(sum: i64, zone: &[i64; NUMBERS], round: usize) -> i64 {
-    sum.wrapping_mul(31).wrapping_add(zone[round % NUMBERS])
-}
-
-fn close_rounds(rounds: usize) -> i64 {
-    let rough = rough_zone();
-    let mut sum = 0;
-    for round in 0..rounds {
-        let mut zone = rough;
-        let _ = zones::close(BASINS, &mut zone);
-        sum = trace(sum, &zone, round);
-    }
-    sum
-}
-
-fn step_rounds(rounds: usize) -> i64 {
-    let mut closed = rough_zone();
-    let _ = zones::close(BASINS, &mut closed);
-    let rates = [Rate { rise: 3, fall: 2 }; BASINS];
-    let mut sum = 0;
-    for round in 0..rounds {
-        let mut zone = closed;
-        let _ = zones::step(BASINS, &rates, &mut zone);
-        sum = trace(sum, &zone, round);
-    }
-    sum
-}
-
-fn meet_rounds(rounds: usize) -> i64 {
-    let start = first_zone();
-    let mut sum = 0;
+// What is left of a zone by a change, in so many rounds: one number for each, so that no round can be left out.
+fn left_by<F: Fn(usize, &mut [i64; NUMBERS]) -> Result<(), Refusal>>(
+    start: [i64; NUMBERS],
+    rounds: usize,
+    change: F,
+) -> Result<i64, Refusal>
+    requires { F.IsAlwaysCallable change }
+{
+    let mut sum = 0i64;
     for round in 0..rounds {
         let mut zone = start;
-        let _ = zones::meet(BASINS, reading(round), &mut zone);
-        sum = trace(sum, &zone, round);
+        change(round, &mut zone)?;
+        sum = sum.wrapping_mul(31).wrapping_add(zone[round % NUMBERS]);
     }
-    sum
+    Ok(sum)
 }
 
-fn report(
+fn left_by_closing(rounds: usize) -> Result<i64, Refusal> {
+    left_by(rough_zone()?, rounds, |_, zone| zones::close(BASINS, zone))
+}
+
+fn left_by_steps(rounds: usize) -> Result<i64, Refusal> {
+    left_by(
+        closed_zone()?,
+        rounds,
+        |_, zone| zones::step(BASINS, &RATES, zone),
+    )
+}
+
+fn left_by_readings(rounds: usize) -> Result<i64, Refusal> {
+    left_by(first_zone()?, rounds, |round, zone| {
+        zones::meet(BASINS, reading(round), zone)
+    })
+}
+
+// Times so many rounds of some work.
+fn time<F: FnOnce(usize) -> Result<i64, Refusal>>(
     rt: &HostRuntime,
     what: &str,
     rounds: usize,
-    start: Instant,
-    sum: i64,
-) -> anyhow::Result<()> {
+    work: F,
+) -> anyhow::Result<()>
+    requires { F.IsAlwaysCallable work }
+{
+    let start = Instant::now(rt)?;
+    let sum = taken(work(rounds))?;
     let nanos = start.elapsed(rt)?.as_nanos() / (rounds as u128).max(1);
     println!(rt; "{what} {nanos} ns {sum}")?;
     Ok(())
 }
 
-fn time_all(rt: &HostRuntime, rounds: usize) -> anyhow::Result<()> {
-    let start = Instant::now(rt)?;
-    report(rt, "close", rounds, start, close_rounds(rounds))?;
-    let start = Instant::now(rt)?;
-    report(rt, "step", rounds, start, step_rounds(rounds))?;
-    let start = Instant::now(rt)?;
-    report(rt, "meet", rounds, start, meet_rounds(rounds))
+// Nothing here is refused.
+fn taken(sum: Result<i64, Refusal>) -> anyhow::Result<i64> {
+    sum.map_err(|refusal| anyhow!("{refusal}"))
 }
 
 fn run(rt: &HostRuntime) -> anyhow::Result<()> {
-    let mut args = env::args(rt)?;
-    let _ = args.next();
-    match args.next() {
-        Some(rounds) => time_all(rt, rounds.as_str().parse::<usize>()?),
-        None => {
-            let close = close_rounds(100);
-            let step = step_rounds(100);
-            let meet = meet_rounds(100);
-            println!(rt; "close {close}\nstep {step}\nmeet {meet}")?;
-            Ok(())
-        }
-    }
+    let Some(rounds) = env::args(rt)?.nth(1) else {
+        println!(rt; "close {}", taken(left_by_closing(100))?)?;
+        println!(rt; "step {}", taken(left_by_steps(100))?)?;
+        println!(rt; "meet {}", taken(left_by_readings(100))?)?;
+        return Ok(());
+    };
+    let rounds = rounds.as_str().parse::<usize>()?;
+    time(rt, "close", rounds, left_by_closing)?;
+    time(rt, "step", rounds, left_by_steps)?;
+    time(rt, "meet", rounds, left_by_readings)
 }
 
 fn main(rt: HostRuntime) -> anyhow::Result<()> {
