@@ -1,13 +1,14 @@
 // What is wrong with a line of a plant, and why there is no plant.
 ghost use Rattle.std.specs.Prelude.{◌≡◌};
-ghost use Rattle.draft.specs.declared.errors.PlantError.TheVariants.{NoMemory, Refused};
+ghost use Rattle.draft.specs.declared.errors.PlantError.TheVariants.{Failed};
+ghost use Rattle.refusal.specs.declared.failure.Failure.TheVariants.{NoMemory, Refused};
 
-use refusal::Refusal;
+use refusal::{Failure, Refusal};
 use std::alloc::AllocError;
 use std::fmt;
 
 // What one line of a plant says, named by the words that it begins with.
-#[derive(Clone, Copy, Debug)]
+#[derive(Clone, Copy, PartialEq, Eq, Debug)]
 pub enum Item {
     Basins,
     Gauges,
@@ -30,7 +31,7 @@ impl fmt::Display for Item {
     }
 }
 
-#[derive(Clone, Copy, Debug)]
+#[derive(Clone, Copy, PartialEq, Eq, Debug)]
 pub enum DraftError {
     // a second line for the same
     Twice(Item),
@@ -54,7 +55,7 @@ impl fmt::Display for DraftError {
 }
 
 // A range or rate of a basin past the count: the line counts for nothing.
-#[derive(Clone, Copy, Debug)]
+#[derive(Clone, Copy, PartialEq, Eq, Debug)]
 pub struct Stray {
     pub line: u64,
     pub basin: u32,
@@ -68,27 +69,35 @@ impl fmt::Display for Stray {
 }
 
 // Why there is no plant.
-#[derive(Clone, Copy, Debug)]
+#[derive(Clone, Copy, PartialEq, Eq, Debug)]
 pub enum PlantError {
     // no line for `basins`, `gauges` or `wrong`
     Missing(Item),
-    Refused(Refusal),
-    NoMemory,
+    // a check turned it away, or want of memory
+    Failed(Failure),
+}
+
+impl From<Failure> for PlantError {
+    ghost from_gives = { λ e r. r ≡ Failed e };
+
+    fn from(e: Failure) -> PlantError {
+        PlantError::Failed(e)
+    }
 }
 
 impl From<Refusal> for PlantError {
-    ghost from_gives = { λ e r. r ≡ Refused e };
+    ghost from_gives = { λ e r. r ≡ Failed (Refused e) };
 
     fn from(e: Refusal) -> PlantError {
-        PlantError::Refused(e)
+        PlantError::Failed(e.into())
     }
 }
 
 impl From<AllocError> for PlantError {
-    ghost from_gives = { λ _ r. r ≡ NoMemory };
+    ghost from_gives = { λ _ r. r ≡ Failed NoMemory };
 
-    fn from(_e: AllocError) -> PlantError {
-        PlantError::NoMemory
+    fn from(e: AllocError) -> PlantError {
+        PlantError::Failed(e.into())
     }
 }
 
@@ -96,8 +105,7 @@ impl fmt::Display for PlantError {
     fn fmt<W: fmt::Write>(&self, f: &mut fmt::Formatter<W>) -> fmt::Result {
         match *self {
             PlantError::Missing(item) => write!(f, "no line for '{item}'"),
-            PlantError::Refused(e) => write!(f, "refused {} {}", e.number(), e.place()),
-            PlantError::NoMemory => write!(f, "no memory"),
+            PlantError::Failed(failure) => write!(f, "{failure}"),
         }
     }
 }

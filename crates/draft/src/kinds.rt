@@ -16,7 +16,8 @@ pub struct Lined<T> {
 }
 
 // The lines of a plant so far, each at its place. Numbers that fit no u32, or no u8 where a gauge hangs, are its largest:
-// this is past every limit, so that the plant is refused for it as for the number itself.
+// this is past every limit, so that the plant is refused for it as for the number itself. Arrays, since maps take memory, and
+// a draft is begun and takes its lines without.
 #[derive(Drop)]
 pub struct Draft {
     pub basins: Option<u32>,

@@ -1,25 +1,24 @@
 // Numbers of a line as a plant has them.
-ghost use Rattle.std.specs.Prelude.{◌≡◌};
-ghost use Rattle.draft.specs.Numbers.{byte, word};
+ghost use Rattle.std.specs.Prelude.{◌≡◌, ◌<◌, MatchOption, Result};
+ghost use Rattle.draft.specs.Numbers.{basin_index};
+ghost use Rattle.std.specs.Result.{result_unwrap_or};
 
-// The number itself, or the largest u32 where it fits none.
-pub fn clamp_u32(number: i64) -> u32
-    ensures { result ≡ word number }
+use crate::kinds::BASINS;
+
+// The number itself, or the largest where it fits none.
+pub fn clamp<T: TryFrom<i64> + Drop>(number: i64, largest: T) -> T
+where
+    T::Error: Drop,
+    ensures { (r : Result T T.Error) × T.try_from_gives number r × (result ≡ result_unwrap_or r largest) }
 {
-    if number >= 0 && number <= u32::MAX as i64 {
-        number as u32
-    } else {
-        u32::MAX
-    }
+    T::try_from(number).unwrap_or(largest)
 }
 
-// The number itself, or the largest u8 where it fits none.
-pub fn clamp_u8(number: i64) -> u8
-    ensures { result ≡ byte number }
+// The index of a basin that a plant can have.
+pub fn basin_index(basin: i64) -> Option<usize>
+    ensures value { result ≡ basin_index basin }
+    ensures below { MatchOption result Unit (λ i. i < 8) }
 {
-    if number >= 0 && number <= u8::MAX as i64 {
-        number as u8
-    } else {
-        u8::MAX
-    }
+    let index = usize::try_from(basin).ok()?.checked_sub(1)?;
+    (index < BASINS).then_some(index)
 }

@@ -1,6 +1,5 @@
 -- What has been read so far. Assumes nothing.
-use Rattle.std.specs.Prelude.{◌≡◌, ℕ, ◌+◌, ◌-◌, ◌^◌, min, List, ◌++◌, Some, None, Ok, Err, codes, IsUtf8, decimal, Option, Result, String}
-use Rattle.std.specs.declared.alloc.Global.{Global}
+use Rattle.std.specs.Prelude.{◌≡◌, ℕ, ◌+◌, ◌-◌, ◌^◌, ◌≤◌, min, List, ◌++◌, Some, None, Ok, Err, codes, IsUtf8, decimal, Option, Result}
 use Rattle.text.specs.declared.entry.Format.TheVariants.{WithoutAlarms}
 use Rattle.text.specs.declared.entry.Entry.{Entry}
 use Rattle.text.specs.declared.entry.Entry.TheVariants.{Basins, Gauges, Wrong, Range, Rate, Gauge, Step, Read, Show, Alarm}
@@ -59,6 +58,10 @@ pub record Noted (bytes : List ℕ) (before after : Counts) : Type 0 where
 abbrev pub shown_line : Counts → List ℕ
 shown_line c = codes "events " ++ (decimal c.steps ++ (codes " steps " ++ (decimal c.readings ++ codes " readings")))
 
--- s is the only argument
-abbrev pub Alone : String Global → Option (String Global) → Option (String Global) → Type 0
-Alone s first second = (first ≡ Some s) × (second ≡ None)
+-- no line counts twice
+abbrev pub Once : Counts → Type 0
+Once c = c.steps + c.readings + c.refused ≤ c.lines
+
+-- so many lines were read, and none counts twice
+abbrev pub After : ℕ → Counts → Type 0
+After n c = (c.lines ≡ n) × Once c

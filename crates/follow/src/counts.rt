@@ -5,7 +5,7 @@ ghost use Rattle.follow.specs.Counted.{none, noted, shown_line};
 use std::fmt;
 use text::{Entry, LineError};
 
-#[derive(Clone, Copy)]
+#[derive(Clone, Copy, PartialEq, Eq, Debug)]
 pub struct Counts {
     pub lines: u64,
     pub steps: u64,
@@ -33,15 +33,7 @@ impl Counts {
         self.lines = self.lines.saturating_add(1);
         match *reading {
             Ok(Some(Entry::Step)) => self.steps = self.steps.saturating_add(1),
-            Ok(
-                Some(
-                    Entry::Read {
-                        gauge: _,
-                        low: _,
-                        high: _,
-                    },
-                ),
-            ) => self.readings = self.readings.saturating_add(1),
+            Ok(Some(Entry::Read { .. })) => self.readings = self.readings.saturating_add(1),
             Ok(_) => {}
             Err(_) => self.refused = self.refused.saturating_add(1),
         }

@@ -1,79 +1,60 @@
 // Lines from any input, read and answered one by one.
-ghost use Rattle.std.specs.Prelude.{◌+◌, ◌≤◌, IfOk};
-ghost use Rattle.follow.specs.Counted.{Noted};
+ghost use Rattle.std.specs.Prelude.{◌≡◌, IfOk, OnOk};
+ghost use Rattle.follow.specs.Counted.{After, Noted, Once};
+ghost use Rattle.console.specs.Lines.{Next};
 
 use crate::counts::Counts;
+use console::{Console, Halt, TakeLines};
 use std::alloc::Global;
-use std::io::{BufRead, BufReader, Read, Write};
-use std::{fmt, io};
+use std::io::{Read, Write};
 use text::{Entry, Format};
 
-// Why following ended before the input did.
+// The program's state, and where it answers.
 #[derive(Drop)]
-pub enum Halt {
-    Reading(io::Error),
-    Writing(io::Error),
+struct Follower<O, E> {
+    counts: Counts,
+    console: Console<O, E>,
 }
 
-impl fmt::Display for Halt {
-    fn fmt<W: fmt::Write>(&self, f: &mut fmt::Formatter<W>) -> fmt::Result {
-        match self {
-            Halt::Reading(e) => write!(f, "cannot read: {e}"),
-            Halt::Writing(e) => write!(f, "cannot write: {e}"),
-        }
-    }
-}
+impl<O: Write, E: Write> TakeLines for Follower<O, E> {
+    type Halt = Halt;
 
-// Counts one line, and prints its answer or what is wrong with it.
-fn take<O: Write, E: Write>(
-    counts: &mut Counts,
-    bytes: &[u8],
-    out: &mut O,
-    err: &mut E,
-) -> io::Result<()>
-    ensures { Noted bytes.now counts.old counts.new }
-{
-    let reading = text::parse_bytes(bytes, Format::WithoutAlarms);
-    counts.note(&reading);
-    match reading {
-        Ok(Some(Entry::Show)) => {
-            let answer = *counts;
-            writeln!(out, "{answer}")?;
-            out.flush()
+    ghost after = { λ n f. After n f.counts };
+
+    // Counts one line, and prints its answer or what is wrong with it.
+    fn take(&mut self, line: &[u8]) -> Result<(), Halt>
+        ensures noted { Noted line.now self.old.counts self.new.counts }
+        ensures next { OnOk result (Next (λ n f. After n f.counts) self.old self.new) }
+    {
+        let reading = text::parse_bytes(line, Format::WithoutAlarms);
+        self.counts.note(&reading);
+        match reading {
+            Ok(Some(Entry::Show)) => {
+                let answer = self.counts;
+                writeln!(self.console.out, "{answer}")?;
+            }
+            Ok(_) => return Ok(()),
+            Err(fault) => self.console.complain(self.counts.lines, fault)?,
         }
-        Ok(_) => Ok(()),
-        Err(fault) => {
-            let number = counts.lines;
-            writeln!(err, "line {number}: {fault}")?;
-            err.flush()
-        }
+        self.console.flush()?;
+        Ok(())
     }
 }
 
 // Follows the input to its end, and answers what was read: no line counts twice.
-pub fn follow<R: Read + Drop, O: Write, E: Write>(
+pub fn follow<R: Read + Drop, O: Write + Drop, E: Write + Drop>(
     heap: Global,
     from: R,
-    out: &mut O,
-    err: &mut E,
+    console: Console<O, E>,
 ) -> Result<Counts, Halt>
-    ensures { IfOk result (λ c. c.steps + c.readings + c.refused ≤ c.lines) }
+    ensures { IfOk result Once }
 {
-    let mut input = BufReader::new(heap, from).map_err(Halt::Reading)?;
-    let mut line = Vec::new(heap);
-    let mut counts = Counts::new();
-    for _turn in 0..u64::MAX {
-        line.clear();
-        match input.read_until(b'\n', &mut line) {
-            Ok(0) => break,
-            Ok(_) => {}
-            Err(e) => return Err(Halt::Reading(e)),
-        }
-        if let Err(e) = take(&mut counts, line.as_slice(), out, err) {
-            return Err(Halt::Writing(e));
-        }
-    }
-    Ok(counts)
+    let mut follower = Follower {
+        counts: Counts::new(),
+        console,
+    };
+    console::take_lines(heap, from, &mut follower)?;
+    Ok(follower.counts)
 }
 
 #[cfg(test)]
@@ -90,9 +71,12 @@ mod tests {
     ) -> Result<(), Fail> {
         let mut out = Vec::new(rt.alloc());
         let mut err = Vec::new(rt.alloc());
-        match follow(rt.alloc(), input, &mut out, &mut err) {
-            Ok(_) => {}
-            Err(_) => return Err(Fail::new("halted")),
+        let console = Console {
+            out: &mut out,
+            err: &mut err,
+        };
+        if follow(rt.alloc(), input, console).is_err() {
+            return Err(Fail::new("halted"));
         }
         assert!(rt; out.as_slice() == answers);
         assert!(rt; err.as_slice() == faults);

@@ -1,6 +1,5 @@
 -- What has been read so far. Assumes nothing: these are definitions.
-use Rattle.std.specs.Prelude.{◌≡◌, ℕ, ◌+◌, ◌-◌, ◌^◌, ◌≤◌, min, Some, None, Option, String}
-use Rattle.std.specs.declared.alloc.Global.{Global}
+use Rattle.std.specs.Prelude.{◌≡◌, ℕ, ◌+◌, ◌-◌, ◌^◌, ◌≤◌, min}
 use Rattle.observe.specs.declared.counts.Counts.{Counts}
 use Rattle.observe.specs.declared.kinds.Answer.{Answer}
 use Rattle.observe.specs.declared.kinds.Answer.TheVariants.{Taken, Refused, NoGauge, Shown, Rings, Unfit, Late}
@@ -38,6 +37,6 @@ noted Late c = failed c
 abbrev pub Once : Counts → Type 0
 Once c = c.errors ≤ c.lines
 
--- s is the only argument
-abbrev pub Alone : String Global → Option (String Global) → Option (String Global) → Type 0
-Alone s first second = (first ≡ Some s) × (second ≡ None)
+-- so many lines were read, and none counts twice
+abbrev pub After : ℕ → Counts → Type 0
+After n c = (c.lines ≡ n) × Once c

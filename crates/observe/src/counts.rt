@@ -4,7 +4,7 @@ ghost use Rattle.observe.specs.Counted.{failed, lined, none, noted, strayed};
 
 use crate::kinds::Answer;
 
-#[derive(Clone, Copy)]
+#[derive(Clone, Copy, PartialEq, Eq, Debug)]
 pub struct Counts {
     pub lines: u64,
     // lines that could not be read, or said what cannot be said there

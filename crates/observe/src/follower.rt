@@ -10,7 +10,7 @@ use crate::counts::Counts;
 use crate::kinds::{Answer, Stage};
 use draft::{Draft, PlantError, Stray};
 use plant::GaugeReading;
-use refusal::{Failure, Refusal};
+use refusal::Refusal;
 use std::alloc::{AllocError, Global};
 use table::Observer;
 use text::Entry;
@@ -24,43 +24,36 @@ pub struct Follower {
 fn answer_of(res: Result<(), Refusal>) -> Answer
     ensures { result ≡ answer_of res }
 {
-    match res {
-        Ok(()) => Answer::Taken,
-        Err(refusal) => Answer::Refused(refusal),
-    }
+    res.map_or_else(Answer::Refused, |()| Answer::Taken)
 }
 
 // A number that fits a u32, as those of gauges and basins do.
 fn word_of(number: i64) -> Option<u32>
     ensures { result ≡ word_of number }
 {
-    if number >= 0 && number <= u32::MAX as i64 {
-        Some(number as u32)
-    } else {
-        None
-    }
+    u32::try_from(number).ok()
 }
 
 // An event or a request, with which the plant ends.
 pub fn ends_plant(entry: Entry) -> bool
     ensures { result ≡ ends_plant entry }
 {
-    match entry {
-        Entry::Step | Entry::Read { .. } | Entry::Show | Entry::Alarm { .. } => true,
-        _ => false,
-    }
+    matches!(
+        entry,
+        Entry::Step | Entry::Read { .. } | Entry::Show | Entry::Alarm { .. }
+    )
 }
 
 // Asks the observer for an alarm.
 fn ring(observer: &Observer, basin: i64, limit: i64) -> Answer
     ensures { RingSays basin (word_of basin) limit observer.now result }
 {
-    match word_of(basin) {
-        Some(number) => match shown::alarm(observer, number, limit) {
-            Ok(alarm) => Answer::Rings(basin, limit, alarm),
-            Err(refusal) => Answer::Refused(refusal),
-        },
-        None => Answer::Refused(Refusal::NoBasin),
+    let Some(number) = word_of(basin) else {
+        return Answer::Refused(Refusal::NoBasin);
+    };
+    match shown::alarm(observer, number, limit) {
+        Ok(alarm) => Answer::Rings(basin, limit, alarm),
+        Err(refusal) => Answer::Refused(refusal),
     }
 }
 
@@ -70,17 +63,12 @@ fn observe(observer: &mut Observer, entry: Entry) -> Answer
 {
     match entry {
         Entry::Step => answer_of(observer.step()),
-        Entry::Read { gauge, low, high } => match word_of(gauge) {
-            Some(number) => {
-                let reading = GaugeReading {
-                    gauge: number,
-                    low,
-                    high,
-                };
-                answer_of(observer.read(reading))
-            }
-            None => Answer::NoGauge(gauge),
-        },
+        Entry::Read { gauge, low, high } => {
+            let Some(gauge) = word_of(gauge) else {
+                return Answer::NoGauge(gauge);
+            };
+            answer_of(observer.read(GaugeReading { gauge, low, high }))
+        }
         Entry::Show => Answer::Shown,
         Entry::Alarm { basin, limit } => ring(observer, basin, limit),
         _ => Answer::Late,
@@ -93,11 +81,7 @@ fn make_observer(heap: Global, draft: &Draft) -> Result<Observer, PlantError>
         (λ e. PlantSays draft.now (Err e)) }
 {
     let plant = draft.plant(heap)?;
-    match Observer::new(heap, plant) {
-        Ok(observer) => Ok(observer),
-        Err(Failure::Refused(refusal)) => Err(PlantError::Refused(refusal)),
-        Err(Failure::NoMemory) => Err(PlantError::NoMemory),
-    }
+    Ok(Observer::new(heap, plant)?)
 }
 
 impl Follower {
@@ -140,10 +124,9 @@ impl Follower {
     {
         let line = self.counts.lines;
         let answer = match &mut self.stage {
-            Stage::Drafting(draft) => match draft.note(line, entry) {
-                Ok(()) => Answer::Taken,
-                Err(error) => Answer::Unfit(error),
-            },
+            Stage::Drafting(draft) => draft
+                .note(line, entry)
+                .map_or_else(Answer::Unfit, |()| Answer::Taken),
             Stage::Following(observer) => observe(observer, entry),
         };
         self.counts.note(answer);

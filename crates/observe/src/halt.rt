@@ -5,8 +5,7 @@ use std::{fmt, io};
 
 #[derive(Drop)]
 pub enum Halt {
-    Reading(io::Error),
-    Writing(io::Error),
+    Console(console::Halt),
     // the plant is refused, as has been told on standard output
     Refused,
     // there is no plant
@@ -16,22 +15,33 @@ pub enum Halt {
 impl fmt::Display for Halt {
     fn fmt<W: fmt::Write>(&self, f: &mut fmt::Formatter<W>) -> fmt::Result {
         match self {
-            Halt::Reading(e) => write!(f, "cannot read: {e}"),
-            Halt::Writing(e) => write!(f, "cannot write: {e}"),
+            Halt::Console(e) => write!(f, "{e}"),
             Halt::Refused => write!(f, "the plant is refused"),
             Halt::Plant(e) => write!(f, "{e}"),
         }
     }
 }
 
+impl From<console::Halt> for Halt {
+    fn from(e: console::Halt) -> Halt {
+        Halt::Console(e)
+    }
+}
+
 impl From<io::Error> for Halt {
     fn from(e: io::Error) -> Halt {
-        Halt::Writing(e)
+        Halt::Console(e.into())
+    }
+}
+
+impl From<PlantError> for Halt {
+    fn from(e: PlantError) -> Halt {
+        Halt::Plant(e)
     }
 }
 
 impl From<AllocError> for Halt {
-    fn from(_e: AllocError) -> Halt {
-        Halt::Plant(PlantError::NoMemory)
+    fn from(e: AllocError) -> Halt {
+        Halt::Plant(e.into())
     }
 }

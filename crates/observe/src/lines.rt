@@ -1,33 +1,27 @@
 // Lines from any input, read and answered one by one.
-ghost use Rattle.std.specs.Prelude.{◌≡◌, true, IfOk, Err, IsUtf8, OnOk};
-ghost use Rattle.observe.specs.Counted.{Once, none};
+ghost use Rattle.std.specs.Prelude.{◌≡◌, true, IfOk, OnOk};
+ghost use Rattle.observe.specs.Counted.{After, Once};
+ghost use Rattle.console.specs.Lines.{Next};
 ghost use Rattle.observe.specs.Followed.{Entered, LineSays, Ready};
 
 use crate::counts::Counts;
 use crate::follower::{Follower, ends_plant};
 use crate::halt::Halt;
 use crate::kinds::{Answer, Stage};
+use console::{Console, TakeLines};
 use draft::{PlantError, Stray};
-use refusal::Refusal;
+use refusal::Failure;
 use std::alloc::Global;
 use std::io;
-use std::io::{BufRead, BufReader, Read, Write};
+use std::io::{Read, Write};
 use table::Observer;
 use text::{Entry, Format};
-
-// ---- what is printed: refusals and what is shown on `out`, what is wrong with a line on `err`
-
-fn tell_refusal<O: Write>(refusal: Refusal, out: &mut O) -> io::Result<()> {
-    let number = refusal.number();
-    let place = refusal.place();
-    writeln!(out, "refused {number} {place}")
-}
 
 // What the level of a basin can be.
 fn tell_basin<O: Write>(observer: &Observer, basin: u32, out: &mut O) -> io::Result<()> {
     match shown::basin_span(observer, basin) {
         Ok(span) => writeln!(out, "basin {basin} {span}"),
-        Err(refusal) => tell_refusal(refusal, out),
+        Err(refusal) => writeln!(out, "{refusal}"),
     }
 }
 
@@ -40,7 +34,7 @@ fn tell_difference<O: Write>(
 ) -> io::Result<()> {
     match shown::difference_span(observer, first, second) {
         Ok(span) => writeln!(out, "difference {first} {second} {span}"),
-        Err(refusal) => tell_refusal(refusal, out),
+        Err(refusal) => writeln!(out, "{refusal}"),
     }
 }
 
@@ -63,172 +57,120 @@ fn show<O: Write>(observer: &Observer, out: &mut O) -> io::Result<()> {
     Ok(())
 }
 
-// The answer to `show` before there is an observer would be nothing; the plant has always ended then.
-fn tell_stage<O: Write>(stage: &Stage, out: &mut O) -> io::Result<()> {
-    match stage {
-        Stage::Following(observer) => show(observer, out),
-        Stage::Drafting(_) => Ok(()),
-    }
-}
-
-// The answer to an entry.
-fn tell<O: Write, E: Write>(
-    follower: &Follower,
-    answer: Answer,
-    out: &mut O,
-    err: &mut E,
-) -> io::Result<()> {
-    let line = follower.counts.lines;
-    match answer {
-        Answer::Taken => return Ok(()),
-        Answer::Refused(refusal) => tell_refusal(refusal, out)?,
-        Answer::NoGauge(gauge) => writeln!(out, "refused 8 {gauge}")?,
-        Answer::Shown => tell_stage(&follower.stage, out)?,
-        Answer::Rings(basin, limit, alarm) => writeln!(out, "alarm {basin} {limit} {alarm}")?,
-        Answer::Unfit(error) => writeln!(err, "line {line}: {error}")?,
-        Answer::Late => writeln!(err, "line {line}: the plant has ended")?,
-    }
-    out.flush()?;
-    err.flush()
-}
-
 // Lines of the plant that count for nothing.
-fn tell_strays<E: Write>(strays: &[Stray], err: &mut E) -> io::Result<()> {
+fn tell_strays<O: Write, E: Write>(
+    strays: &[Stray],
+    console: &mut Console<O, E>,
+) -> io::Result<()> {
     for stray in strays {
-        let line = stray.line;
-        let what = *stray;
-        writeln!(err, "line {line}: {what}")?;
+        console.complain(stray.line, *stray)?;
     }
-    err.flush()
+    console.flush()
 }
 
-// Ends the plant, if it has not ended, and tells what is wrong with it.
-fn begin<O: Write, E: Write>(
-    follower: &mut Follower,
+// The program's state, and where it answers: refusals and what is shown on `out`, what is wrong with a line on `err`.
+#[derive(Drop)]
+struct Session<O, E> {
+    follower: Follower,
     heap: Global,
-    out: &mut O,
-    err: &mut E,
-) -> Result<(), Halt>
-    ensures { OnOk result (Ready true follower.old follower.new) }
-{
-    let strays = follower.strays(heap)?;
-    tell_strays(strays.as_slice(), err)?;
-    follower.counts.add_strays(strays.len() as u64);
-    match follower.begin(heap) {
-        Ok(()) => Ok(()),
-        Err(PlantError::Refused(refusal)) => {
-            tell_refusal(refusal, out)?;
-            out.flush()?;
-            Err(Halt::Refused)
-        }
-        Err(error) => Err(Halt::Plant(error)),
-    }
+    console: Console<O, E>,
 }
 
-// Takes one entry, and prints its answer.
-fn enter<O: Write, E: Write>(
-    follower: &mut Follower,
-    heap: Global,
-    entry: Entry,
-    out: &mut O,
-    err: &mut E,
-) -> Result<(), Halt>
-    ensures { OnOk result (Entered entry follower.old follower.new) }
-{
-    if ends_plant(entry) {
-        begin(follower, heap, out, err)?;
-    }
-    let answer = follower.enter(entry);
-    tell(follower, answer, out, err)?;
-    Ok(())
-}
-
-// Takes one line, and prints its answer or what is wrong with it.
-fn take<O: Write, E: Write>(
-    follower: &mut Follower,
-    heap: Global,
-    bytes: &[u8],
-    out: &mut O,
-    err: &mut E,
-) -> Result<(), Halt>
-    ensures { OnOk result (LineSays bytes.now follower.old follower.new) }
-{
-    follower.counts.line();
-    match text::parse_bytes(bytes, Format::WithAlarms) {
-        Ok(said) => match said {
-            Some(entry) => {
-                enter(follower, heap, entry, out, err)?;
-                Ok(())
+impl<O: Write, E: Write> Session<O, E> {
+    // The answer to an entry.
+    fn tell(&mut self, answer: Answer) -> io::Result<()>
+        ensures { self.new.follower ≡ self.old.follower }
+    {
+        let line = self.follower.counts.lines;
+        let out = &mut self.console.out;
+        match answer {
+            Answer::Taken => return Ok(()),
+            Answer::Refused(refusal) => writeln!(out, "{refusal}")?,
+            Answer::NoGauge(gauge) => writeln!(out, "refused 8 {gauge}")?,
+            Answer::Shown => {
+                // the plant has always ended then
+                if let Stage::Following(observer) = &self.follower.stage {
+                    show(observer, out)?;
+                }
             }
-            None => Ok(()),
-        },
-        Err(fault) => {
-            follower.counts.error();
-            let number = follower.counts.lines;
-            writeln!(err, "line {number}: {fault}")?;
-            err.flush()?;
-            Ok(())
+            Answer::Rings(basin, limit, alarm) => writeln!(out, "alarm {basin} {limit} {alarm}")?,
+            Answer::Unfit(error) => self.console.complain(line, error)?,
+            Answer::Late => self.console.complain(line, "the plant has ended")?,
         }
+        self.console.flush()
+    }
+
+    // Ends the plant, if it has not ended, and tells what is wrong with it.
+    fn begin(&mut self) -> Result<(), Halt>
+        ensures { OnOk result (Ready true self.old.follower self.new.follower) }
+    {
+        let strays = self.follower.strays(self.heap)?;
+        tell_strays(&strays, &mut self.console)?;
+        self.follower.counts.add_strays(strays.len() as u64);
+        match self.follower.begin(self.heap) {
+            Err(PlantError::Failed(Failure::Refused(refusal))) => {
+                writeln!(self.console.out, "{refusal}")?;
+                self.console.flush()?;
+                Err(Halt::Refused)
+            }
+            begun => Ok(begun?),
+        }
+    }
+
+    // Takes one entry, and prints its answer.
+    fn enter(&mut self, entry: Entry) -> Result<(), Halt>
+        ensures { OnOk result (Entered entry self.old.follower self.new.follower) }
+    {
+        if ends_plant(entry) {
+            self.begin()?;
+        }
+        let answer = self.follower.enter(entry);
+        self.tell(answer)?;
+        Ok(())
     }
 }
 
-// Follows the input to its end, line by line.
-fn follow_lines<R: Read + Drop, O: Write, E: Write>(
-    follower: &mut Follower,
-    heap: Global,
-    from: R,
-    out: &mut O,
-    err: &mut E,
-) -> Result<(), Halt>
-    requires { follower.old.counts ≡ none }
-    ensures { OnOk result (Once follower.new.counts) }
-{
-    let mut input = match BufReader::new(heap, from) {
-        Ok(input) => input,
-        Err(e) => return Err(Halt::Reading(e)),
-    };
-    let mut line = Vec::new(heap);
-    for _turn in 0..u64::MAX {
-        line.clear();
-        match input.read_until(b'\n', &mut line) {
-            Ok(0) => break,
-            Ok(_) => {}
-            Err(e) => return Err(Halt::Reading(e)),
-        }
-        take(follower, heap, line.as_slice(), out, err)?;
-    }
-    Ok(())
-}
+impl<O: Write, E: Write> TakeLines for Session<O, E> {
+    type Halt = Halt;
 
-// The plant ends with the input, if it has not ended.
-fn follow_all<R: Read + Drop, O: Write, E: Write>(
-    follower: &mut Follower,
-    heap: Global,
-    from: R,
-    out: &mut O,
-    err: &mut E,
-) -> Result<(), Halt>
-    requires { follower.old.counts ≡ none }
-    ensures { OnOk result (Once follower.new.counts) }
-{
-    follow_lines(follower, heap, from, out, err)?;
-    begin(follower, heap, out, err)
+    ghost after = { λ n s. After n s.follower.counts };
+
+    // Takes one line, and prints its answer or what is wrong with it.
+    fn take(&mut self, line: &[u8]) -> Result<(), Halt>
+        ensures says { OnOk result (LineSays line.now self.old.follower self.new.follower) }
+        ensures next { OnOk result (Next (λ n s. After n s.follower.counts) self.old self.new) }
+    {
+        self.follower.counts.line();
+        match text::parse_bytes(line, Format::WithAlarms) {
+            Ok(Some(entry)) => self.enter(entry)?,
+            Ok(None) => {}
+            Err(fault) => {
+                self.follower.counts.error();
+                self.console.complain(self.follower.counts.lines, fault)?;
+                self.console.flush()?;
+            }
+        }
+        Ok(())
+    }
 }
 
 // Follows the input to its end, and answers what was read: no line counts twice.
-pub fn follow<R: Read + Drop, O: Write, E: Write>(
+pub fn follow<R: Read + Drop, O: Write + Drop, E: Write + Drop>(
     heap: Global,
     from: R,
-    out: &mut O,
-    err: &mut E,
+    console: Console<O, E>,
 ) -> Result<Counts, Halt>
     ensures { IfOk result Once }
 {
-    let mut follower = Follower::new();
-    match follow_all(&mut follower, heap, from, out, err) {
-        Ok(()) => Ok(follower.counts),
-        Err(halt) => Err(halt),
-    }
+    let mut session = Session {
+        follower: Follower::new(),
+        heap,
+        console,
+    };
+    console::take_lines(heap, from, &mut session)?;
+    // the plant ends with the input, if it has not ended
+    session.begin()?;
+    Ok(session.follower.counts)
 }
 
 #[cfg(test)]
@@ -253,7 +195,11 @@ mod tests {
         whole.extend_from_slice(input)?;
         let mut out = Vec::new(rt.alloc());
         let mut err = Vec::new(rt.alloc());
-        match follow(rt.alloc(), whole.as_slice(), &mut out, &mut err) {
+        let console = Console {
+            out: &mut out,
+            err: &mut err,
+        };
+        match follow(rt.alloc(), whole.as_slice(), console) {
             Ok(_) => assert_eq!(rt; "", halt),
             Err(e) => assert_eq!(rt; e.to_string(rt.alloc())?.as_str(), halt),
         }

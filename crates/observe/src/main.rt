@@ -4,20 +4,17 @@
 ghost use Rattle.std.specs.Prelude.{◌≡◌, IfOk};
 ghost use Rattle.observe.specs.Counted.{Once};
 
-mod call;
 mod counts;
 mod follower;
 mod halt;
 mod kinds;
 mod lines;
 
-use call::Call;
+use console::{Console, Program};
 use counts::Counts;
 use halt::Halt;
-use std::fs::File;
 use std::io::{BufWriter, Read};
 use std::process::ExitCode;
-use std::{env, io};
 
 const USAGE: &str = "usage: observe [FILE]\n       observe --help";
 
@@ -64,79 +61,39 @@ that is of a basin past the plant goes to standard error as `line N: MESSAGE`
 and changes nothing, and the next line is read. Status: 0, or 1 if there was
 such a line or the program had to stop.";
 
-// The process ends with status 1; what went wrong has been printed.
-struct Failed;
+struct Observe;
 
-// Follows an input that could be opened.
-fn follow<R: Read + Drop>(rt: &HostRuntime, from: R) -> Result<Counts, Halt>
-    ensures { IfOk result Once }
-{
-    let mut out = BufWriter::new(rt.alloc(), rt.stdout())?;
-    let mut err = BufWriter::new(rt.alloc(), rt.stderr())?;
-    lines::follow(rt.alloc(), from, &mut out, &mut err)
-}
+impl Program for Observe {
+    const NAME: &'static str = "observe";
 
-// Follows one input. It is done well only if every line could be read.
-fn run<R: Read + Drop>(rt: &HostRuntime, name: &str, input: io::Result<R>) -> Result<Counts, Failed>
-    ensures { IfOk result (λ c. (c.errors ≡ 0) × (c.strays ≡ 0)) }
-{
-    let from = match input {
-        Ok(from) => from,
-        Err(e) => {
-            let _ = eprintln!(rt; "observe: {name}: cannot open: {e}");
-            return Err(Failed);
-        }
-    };
-    match follow(rt, from) {
-        Ok(counts) => {
-            if counts.errors == 0 && counts.strays == 0 {
-                Ok(counts)
-            } else {
-                Err(Failed)
-            }
-        }
-        // it has been told on standard output
-        Err(Halt::Refused) => Err(Failed),
-        Err(halt) => {
-            let _ = eprintln!(rt; "observe: {name}: {halt}");
-            Err(Failed)
-        }
+    const USAGE: &'static str = USAGE;
+
+    const HELP: &'static str = HELP;
+
+    type Counts = Counts;
+
+    type Halt = Halt;
+
+    ghost clean = { λ c. (c.errors ≡ 0) × (c.strays ≡ 0) };
+
+    fn is_clean(counts: &Counts) -> bool {
+        counts.errors == 0 && counts.strays == 0
+    }
+
+    // on standard output
+    fn is_told(halt: &Halt) -> bool {
+        matches!(halt, Halt::Refused)
+    }
+
+    fn follow<R: Read + Drop>(rt: &HostRuntime, from: R) -> Result<Counts, Halt>
+        ensures { IfOk result Once }
+    {
+        let out = BufWriter::new(rt.alloc(), rt.stdout())?;
+        let err = BufWriter::new(rt.alloc(), rt.stderr())?;
+        lines::follow(rt.alloc(), from, Console { out, err })
     }
 }
 
-// Does what the command line asks for.
-fn start(rt: &HostRuntime) -> Result<(), Failed> {
-    let mut args = match env::args(rt) {
-        Ok(args) => args,
-        Err(e) => {
-            let _ = eprintln!(rt; "observe: arguments: {e}");
-            return Err(Failed);
-        }
-    };
-    let _ = args.next();
-    let first = args.next();
-    match call::choose(first, args.next()) {
-        Call::Help => {
-            let _ = println!(rt; "{HELP}");
-        }
-        Call::Input => {
-            run(rt, "standard input", Ok(rt.stdin()))?;
-        }
-        Call::File(path) => {
-            run(rt, path.as_str(), File::open(rt, path.as_str()))?;
-        }
-        Call::Misused => {
-            let _ = eprintln!(rt; "{USAGE}");
-            return Err(Failed);
-        }
-    }
-    Ok(())
-}
-
-// `main` tells nothing more of an error: it has been told.
 fn main(rt: HostRuntime) -> ExitCode {
-    match start(&rt) {
-        Ok(()) => ExitCode::SUCCESS,
-        Err(Failed) => ExitCode::FAILURE,
-    }
+    console::start::<Observe>(&rt)
 }

@@ -1,28 +1,27 @@
-use Rattle.std.proofs.Common.{◌+◌, ◌<◌, ◌≤◌, [], ◌∷◌, length, vec_items, sym, ap, ◌∙◌, arith}
+use Rattle.std.proofs.Common.{ℕ, suc, zero, ◌≡◌, ◌+◌, List, [], ◌∷◌, ◌++◌, length, drop, vec_items, rules, ap, ◌∙◌, refl, arith}
+use Rattle.std.proofs.lemmas.Result.{on_ok_weaker}
+use Rattle.std.proofs.lemmas.Iterator.{YieldsList-from_slice, YieldsList-from_range, YieldsList-from_zip}
+use Rattle.std.proofs.lemmas.Iterator.Adapters.{YieldsList-from_skip, items_from_extend}
+use Rattle.std.proofs.lemmas.Iterator.Consumers.{YieldsList-from_filter_map, YieldsList-at}
+use Rattle.std.specs.List.{enumerate_from, filter_map, range_with_len, zip}
 use Rattle.draft.specs.Finished.{stray_of}
-use Rattle.draft.proofs.Collecting.{each_next, each_skip, each_done}
 use Rattle.draft.proofs.finishing.add_strays.Goals as goal
-use Rattle.draft.proofs.finishing.add_strays.Goals.{in-Some+in_ok-push, in_default}
+use borrow.Author.Tests.{tests}
 
-pub loop-i-preserved : goal.loop-i-preserved
-loop-i-preserved g c =
-    let h : c.loop-i.i < length c.args.places.now = omega (arith, c.requires) in
-    elim c.match-place.branch [
-      | in-Some+in_ok-push w ↦
-          each_next stray_of c.args.places.now (vec_items c.loop-i.strays) (vec_items c.match-place.strays)
-          (record { line = w.in-Some.lined.line; basin = c.loop-i.i + 1 } ∷ []) c.loop-i.i
-          c.index-places-i.result h
-          (ap vec_items w.strays-is ∙ w.in_ok-push.ensures.items)
-          (ap (stray_of c.loop-i.i) (sym c.index-places-i.is ∙ w.in-Some.is))
-          ∙ c.loop-i.invariant
-      | in_default w ↦
-          each_skip stray_of c.args.places.now (vec_items c.loop-i.strays) (vec_items c.match-place.strays)
-          c.loop-i.i c.index-places-i.result h
-          (ap vec_items w.strays-is) (ap (stray_of c.loop-i.i) (sym c.index-places-i.is ∙ w.in_default.is))
-          ∙ c.loop-i.invariant
-    ]
+-- a list beside the numbers from a on
+numbered : {A : Type 0} (a n : ℕ) (xs : List A) → length xs ≡ n → zip (range_with_len a n) xs ≡ enumerate_from a xs
+numbered a zero [] e = refl
+numbered a (suc n) [] e = absurd (omega (arith, e))
+numbered a zero (x ∷ xs) e = absurd (omega (arith, e))
+numbered a (suc n) (x ∷ xs) e = ap (λ ys. (a, x) ∷ ys) (numbered (a + 1) n xs (omega (arith, e)))
 
 pub returns : goal.returns
 returns g c =
-    let h : length c.args.places.now ≤ c.loop-i.i = omega (arith, c.requires, c.loop-i-test.false) in
-    sym (each_done stray_of c.args.places.now _ c.loop-i.i h) ∙ c.loop-i.invariant
+    let h = items_from_extend c.extend.result c.extend.ensures.ran (YieldsList-from_filter_map _ stray_of
+    (YieldsList-at c.filter_map-past.ensures.source
+    (YieldsList-from_skip c.args.count
+    (YieldsList-at c.skip.ensures.source
+    (YieldsList-from_zip (YieldsList-from_range 1 9 8 (cc) refl) (YieldsList-from_slice c.args.places.now cc))) c.skip.ensures.count))
+    c.filter_map-past.ensures.closure (λ x r q k. search (rules, tests))) in
+    on_ok_weaker c.extend.result (λ p. p.0 ∙ ap (λ ys. vec_items c.args.strays.now ++ filter_map stray_of (drop c.args.count ys))
+    (numbered 1 8 c.args.places.now c.requires)) h

@@ -1,0 +1,92 @@
+// A program that follows a file or standard input.
+ghost use Rattle.std.specs.Prelude.{◌≡◌, true, IfOk};
+
+use crate::call::{Call, choose};
+use std::fs::File;
+use std::io::Read;
+use std::process::ExitCode;
+use std::{env, fmt, io};
+
+// What differs from program to program.
+pub trait Program {
+    const NAME: &'static str;
+
+    const USAGE: &'static str;
+
+    const HELP: &'static str;
+
+    // What is known of an input that was followed to its end.
+    type Counts: Drop;
+
+    // Why it was not.
+    type Halt: fmt::Display + Drop;
+
+    // Every line could be taken.
+    ghost clean: { Self.Counts → Type 0 };
+
+    fn is_clean(counts: &Self::Counts) -> bool
+        ensures { result ≡ true → clean counts.now };
+
+    // It has been told why.
+    fn is_told(halt: &Self::Halt) -> bool;
+
+    // Follows an input that could be opened.
+    fn follow<R: Read + Drop>(rt: &HostRuntime, from: R) -> Result<Self::Counts, Self::Halt>;
+}
+
+// The process ends with status 1; what went wrong has been printed.
+struct Failed;
+
+// Tells what went wrong. That it cannot be told is told by the status.
+fn fail<D: fmt::Display + Drop>(rt: &HostRuntime, what: D) -> Failed {
+    let _ = eprintln!(rt; "{what}");
+    Failed
+}
+
+// Follows one input. It is done well only if every line could be taken.
+fn run<P: Program, R: Read + Drop>(
+    rt: &HostRuntime,
+    name: &str,
+    input: io::Result<R>,
+) -> Result<P::Counts, Failed>
+    ensures { IfOk result P.clean }
+{
+    let program = P::NAME;
+    let from = input.map_err(|e| fail(rt, format_args!("{program}: {name}: cannot open: {e}")))?;
+    match P::follow(rt, from) {
+        Ok(counts) if P::is_clean(&counts) => Ok(counts),
+        Ok(_) => Err(Failed),
+        Err(halt) if P::is_told(&halt) => Err(Failed),
+        Err(halt) => Err(fail(rt, format_args!("{program}: {name}: {halt}"))),
+    }
+}
+
+// Does what the command line asks for.
+fn obey<P: Program>(rt: &HostRuntime) -> Result<(), Failed> {
+    let program = P::NAME;
+    let mut args = env::args(rt).map_err(|e| fail(rt, format_args!("{program}: arguments: {e}")))?;
+    let _ = args.next();
+    let first = args.next();
+    match choose(first, args.next()) {
+        Call::Help => {
+            let help = P::HELP;
+            let _ = println!(rt; "{help}");
+        }
+        Call::Input => {
+            run::<P, _>(rt, "standard input", Ok(rt.stdin()))?;
+        }
+        Call::File(path) => {
+            run::<P, _>(rt, path.as_str(), File::open(rt, path.as_str()))?;
+        }
+        Call::Misused => return Err(fail(rt, P::USAGE)),
+    }
+    Ok(())
+}
+
+// Does what the command line asks for, and says with what status the process ends.
+pub fn start<P: Program>(rt: &HostRuntime) -> ExitCode {
+    match obey::<P>(rt) {
+        Ok(()) => ExitCode::SUCCESS,
+        Err(Failed) => ExitCode::FAILURE,
+    }
+}
