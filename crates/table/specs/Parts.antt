@@ -1,6 +1,7 @@
 -- The zone table: one zone for each fault set, one behind the other in one row of numbers. Assumes nothing: these are
 -- definitions.
-use Rattle.std.specs.Prelude.{◌≡◌, ℕ, ◌+◌, ◌-◌, ◌*◌, ◌<◌, true, false, not, ◌≢◌, List, length, take, drop, ℤ, Option, ◌==◌, slice_index_or}
+use Rattle.std.specs.Prelude.{◌≡◌, ℕ, ◌+◌, ◌-◌, ◌*◌, ◌<◌, true, false, not, List, length, take, drop, ℤ, Option, Result, Ok, Err, ◌==◌, slice_index_or}
+use Rattle.std.proofs.Common.{MutBor}
 use Rattle.refusal.specs.Order.{when}
 use Rattle.refusal.specs.declared.kinds.Refusal.{Refusal}
 use Rattle.refusal.specs.declared.kinds.Refusal.TheVariants.{Length}
@@ -23,9 +24,31 @@ part n k xs = take ((k + 1) * size n - k * size n) (drop (k * size n) xs)
 abbrev pub table_refused : (n m len : ℕ) → Option Refusal
 table_refused n m len = when (not (len == m * size n)) (Length len)
 
--- No zone but the one at place k has changed.
-abbrev pub Only : (n k : ℕ) → List ℤ → List ℤ → Type 0
-Only n k xs ys = (q : ℕ) → q ≢ k → part n q ys ≡ part n q xs
+-- ---- what a call does to the zone that is lent to it, for a fault set
+abbrev pub Calls : Type 1
+Calls = FaultSet → MutBor (List ℤ) → Result Unit Refusal → MutBor (List ℤ) → Type 0
+
+-- The call found the numbers xs, answered r, and left the numbers ys.
+pub record Changes (calls : Calls) (s : FaultSet) (xs : List ℤ) (r : Result Unit Refusal) (ys : List ℤ) : Type 0 where
+  pub lent : MutBor (List ℤ)
+  pub found : lent.now ≡ xs
+  pub after : MutBor (List ℤ)
+  pub left : after.now ≡ ys
+  pub called : calls s lent r after
+
+-- So was the zone of every set.
+abbrev pub AllChanged : ℕ → Calls → List FaultSet → List ℤ → List ℤ → Type 0
+AllChanged n calls sets xs ys =
+    (k : ℕ) → k < length sets →
+    Changes calls (slice_index_or sets k (record { bits = 0 })) (part n k xs) (Ok tt) (part n k ys)
+
+-- A call refused a zone of n basins.
+pub record OneRefused (n : ℕ) (calls : Calls) (e : Refusal) : Type 0 where
+  pub set : FaultSet
+  pub numbers : List ℤ
+  pub long : length numbers ≡ size n
+  pub left : List ℤ
+  pub refused : Changes calls set numbers (Err e) left
 
 -- ---- what is done to all zones of m sets
 abbrev pub AllStart : ℕ → List Range → ℕ → List ℤ → Type 0

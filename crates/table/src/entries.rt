@@ -14,7 +14,7 @@ impl Observer {
         ensures { TakeSays event.Step self.old result self.new }
     {
         plant::check_step(self.steps)?;
-        step_table(&self.plant, self.sets.as_slice(), self.table.as_mut_slice())?;
+        step_table(&self.plant, &self.sets, &mut self.table)?;
         self.steps += 1;
         Ok(())
     }
@@ -24,13 +24,7 @@ impl Observer {
         ensures { TakeSays (event.Reading reading) self.old result self.new }
     {
         plant::check_reading(self.in_play, reading)?;
-        read_table(
-            &self.plant,
-            self.sets.as_slice(),
-            reading,
-            self.table.as_mut_slice(),
-        )?;
-        Ok(())
+        read_table(&self.plant, &self.sets, reading, &mut self.table)
     }
 
     pub fn take(&mut self, event: Event) -> Result<(), Refusal>
@@ -47,6 +41,7 @@ impl Observer {
         ensures { TakesAll events.now self.old result self.new }
     {
         let mut count = 0;
+        // a `filter` whose closure takes the events would be no plainer
         for event in events {
             if self.take(*event).is_ok() {
                 count += 1;

@@ -1,72 +1,59 @@
 // All zones of a table that is lent, one for each fault set.
-ghost use Rattle.std.specs.Prelude.{◌≡◌, ◌*◌, ◌<◌, ◌≤◌, length, None, MatchResult};
+ghost use Rattle.std.specs.Prelude.{◌≡◌, ◌*◌, ◌<◌, length, Some, MatchResult};
 ghost use Rattle.refusal.specs.Order.{Found};
-ghost use Rattle.zones.specs.Checks.{range_refused, rate_refused, reading_refused};
+ghost use Rattle.zones.specs.Checks.{meet_refused};
 ghost use Rattle.plant.specs.Resolve.{placed_reading};
-ghost use Rattle.table.specs.Parts.{AllRead, AllStart, AllStep, size, table_refused};
+ghost use Rattle.table.specs.Parts.{AllChanged, Heeds, OneRefused, size, table_refused};
 ghost use Rattle.table.specs.Says.{ReadSays, StartSays, StepSays};
 
-use crate::parts::{read_part, start_part, step_part};
 use faults::FaultSet;
 use plant::{Gauge, GaugeReading, Plant};
 use refusal::Refusal;
-use zones::{Range, Rate, Reading};
+use zones::Reading;
 
-// A table has a zone for each of so many sets.
-fn check_table(basins: usize, sets: usize, length: usize) -> Result<(), Refusal>
-    requires { basins ≤ 8 }
-    ensures { Found result (table_refused basins sets length) }
+// A table has a zone of the plant for each set.
+fn check_table(plant: &Plant, sets: &[FaultSet], table: &[i64]) -> Result<(), Refusal>
+    ensures { Found result (table_refused plant.now.basins (length sets.now) (length table.now)) }
 {
-    let size = (basins + 1) * (basins + 1);
-    if sets.checked_mul(size) != Some(length) {
-        return Err(Refusal::Length(length as u64));
+    if sets.len().checked_mul(plant.zone_size()) != Some(table.len()) {
+        return Err(Refusal::Length(table.len() as u64));
     }
     Ok(())
 }
 
-fn start_all(basins: usize, ranges: &[Range], sets: usize, table: &mut [i64]) -> Result<(), Refusal>
-    requires few { (1 ≤ basins) × (basins ≤ 8) }
-    requires whole { length table.old ≡ sets * size basins }
-    requires checked { range_refused basins ranges.now ≡ None }
-    ensures { MatchResult result (λ _. AllStart basins ranges.now sets table.new) (λ _. ⊥) }
-{
-    for place in 0..sets {
-        start_part(basins, ranges, place, table)?;
-    }
-    Ok(())
-}
-
-fn step_all(basins: usize, rates: &[Rate], sets: usize, table: &mut [i64]) -> Result<(), Refusal>
-    requires few { (1 ≤ basins) × (basins ≤ 8) }
-    requires whole { length table.old ≡ sets * size basins }
-    requires checked { rate_refused basins rates.now ≡ None }
+// Changes the zone of every set: a part of the numbers, lent on to be written.
+fn change_each<F: Fn(FaultSet, &mut [i64]) -> Result<(), Refusal>>(
+    plant: &Plant,
+    sets: &[FaultSet],
+    table: &mut [i64],
+    change: F,
+) -> Result<(), Refusal>
+    requires whole { length table.old ≡ length sets.now * size plant.now.basins }
+    requires callable { F.IsAlwaysCallable change }
     ensures { MatchResult result
-        (λ _. AllStep basins rates.now sets table.old table.new) (λ _. ⊥) }
+        (λ _. AllChanged plant.now.basins (F.post change) sets.now table.old table.new)
+        (OneRefused plant.now.basins (F.post change)) }
 {
-    for place in 0..sets {
-        step_part(basins, rates, place, table)?;
+    let size = plant.zone_size();
+    for (place, set) in sets.iter().enumerate() {
+        change(*set, &mut table[place * size..(place + 1) * size])?;
     }
     Ok(())
 }
 
 // A set that has the gauge is passed over: what it says counts for nothing there.
-fn read_all(
+fn heed(
     basins: usize,
-    sets: &[FaultSet],
     gauge: u32,
     reading: Reading,
-    table: &mut [i64],
+    set: FaultSet,
+    zone: &mut [i64],
 ) -> Result<(), Refusal>
-    requires few { (1 ≤ basins) × (basins ≤ 8) }
-    requires whole { length table.old ≡ length sets.now * size basins }
-    requires checked { reading_refused basins reading ≡ None }
-    ensures { MatchResult result (λ _. AllRead basins reading gauge sets.now table.old table.new)
-        (λ _. ⊥) }
+    ensures { MatchResult result (λ _. Heeds basins reading gauge set zone.old zone.new)
+        (λ e. meet_refused basins (length zone.old) reading ≡ Some e) }
 {
-    for (place, set) in sets.iter().enumerate() {
-        if !set.contains(gauge) {
-            read_part(basins, reading, place, table)?;
-        }
+    if !set.contains(gauge) {
+        zones::meet(basins, reading, zone)?;
     }
     Ok(())
 }
@@ -89,16 +76,20 @@ fn place(gauges: &[Gauge], reading: GaugeReading) -> Reading
 pub fn start_table(plant: &Plant, sets: &[FaultSet], table: &mut [i64]) -> Result<(), Refusal>
     ensures { StartSays plant.now sets.now table.old result table.new }
 {
-    check_table(plant.basins, sets.len(), table.len())?;
-    start_all(plant.basins, plant.ranges.as_slice(), sets.len(), table)
+    check_table(plant, sets, table)?;
+    change_each(plant, sets, table, |_, zone| {
+        zones::set_first(plant.basins, &plant.ranges, zone)
+    })
 }
 
 // A step in time of every zone.
 pub fn step_table(plant: &Plant, sets: &[FaultSet], table: &mut [i64]) -> Result<(), Refusal>
     ensures { StepSays plant.now sets.now table.old result table.new }
 {
-    check_table(plant.basins, sets.len(), table.len())?;
-    step_all(plant.basins, plant.rates.as_slice(), sets.len(), table)
+    check_table(plant, sets, table)?;
+    change_each(plant, sets, table, |_, zone| {
+        zones::step(plant.basins, &plant.rates, zone)
+    })
 }
 
 // A reading, in the zone of every set that does not have its gauge.
@@ -110,8 +101,10 @@ pub fn read_table(
 ) -> Result<(), Refusal>
     ensures { ReadSays plant.now sets.now reading table.old result table.new }
 {
-    check_table(plant.basins, sets.len(), table.len())?;
+    check_table(plant, sets, table)?;
     plant::check_reading(plant.gauges.len() as u32, reading)?;
-    let placed = place(plant.gauges.as_slice(), reading);
-    read_all(plant.basins, sets, reading.gauge, placed, table)
+    let placed = place(&plant.gauges, reading);
+    change_each(plant, sets, table, |set, zone| {
+        heed(plant.basins, reading.gauge, placed, set, zone)
+    })
 }

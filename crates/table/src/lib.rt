@@ -4,7 +4,6 @@
 mod entries;
 mod lent;
 mod making;
-mod parts;
 mod state;
 
 pub use lent::{read_table, start_table, step_table};
@@ -83,10 +82,11 @@ mod tests {
         Event::Reading(says(gauge, low, high))
     }
 
-    fn check_numbers(rt: &impl Abort, numbers: &[i64], expected: &[i64]) {
-        assert_eq!(rt; numbers.len(), expected.len());
-        for (number, wanted) in numbers.iter().zip(expected) {
-            assert_eq!(rt; *number, *wanted);
+    // Two basins have zones of nine numbers.
+    fn check_zones(rt: &impl Abort, table: &[i64], zones: &[[i64; 9]]) {
+        assert_eq!(rt; table.len(), zones.len() * 9);
+        for (zone, wanted) in table.chunks_exact(9).zip(zones) {
+            assert_eq!(rt; zone, wanted.as_slice());
         }
     }
 
@@ -97,40 +97,19 @@ mod tests {
         for (set, bits) in observer.sets.iter().zip([0, 1, 2, 4]) {
             assert_eq!(rt; set.bits, bits);
         }
-        assert_eq!(rt; observer.table.len(), 36);
-        for (zone, wanted) in observer.table.chunks_exact(9).zip(zones) {
-            check_numbers(rt, zone, wanted);
-        }
+        check_zones(rt, &observer.table, zones);
     }
 
-    fn check_refused(
-        rt: &impl Abort,
-        res: Result<(), Refusal>,
-        number: u8,
-        place: u64,
-    ) -> Result<(), Fail> {
-        match res {
-            Ok(()) => Err(Fail::new("taken")),
-            Err(refusal) => {
-                assert_eq!(rt; (refusal.number(), refusal.place()), (number, place));
-                Ok(())
-            },
-        }
+    // The number and the place of a refusal.
+    fn told(refusal: Refusal) -> (u8, u64) {
+        (refusal.number(), refusal.place())
     }
 
-    fn check_no_observer(
-        rt: &impl Abort,
-        made: Result<Observer, Failure>,
-        number: u8,
-        place: u64,
-    ) -> Result<(), Fail> {
+    // Those by which an observer is refused.
+    fn refused(made: Result<Observer, Failure>) -> Option<(u8, u64)> {
         match made {
-            Ok(_) => Err(Fail::new("taken")),
-            Err(Failure::NoMemory) => Err(Fail::new("no memory")),
-            Err(Failure::Refused(refusal)) => {
-                assert_eq!(rt; (refusal.number(), refusal.place()), (number, place));
-                Ok(())
-            },
+            Err(Failure::Refused(refusal)) => Some(told(refusal)),
+            Ok(_) | Err(Failure::NoMemory) => None,
         }
     }
 
@@ -186,10 +165,13 @@ mod tests {
     fn what_is_refused_changes_nothing(rt: HostRuntime) -> Result<(), Fail> {
         let mut observer = Observer::new(rt.alloc(), example(rt.alloc())?)?;
         observer.read(says(0, 48, 52))?;
-        check_refused(&rt, observer.read(says(3, 0, 1)), 8, 3)?;
-        check_refused(&rt, observer.read(says(1, 43, 42)), 9, 0)?;
-        check_refused(&rt, observer.read(says(1, 43, 1_000_001)), 9, 1)?;
-        check_refused(&rt, observer.take(reads(16, 2, 1)), 8, 16)?;
+        assert_eq!(rt; observer.read(says(3, 0, 1)).map_err(told), Err((8, 3)));
+        assert_eq!(rt; observer.read(says(1, 43, 42)).map_err(told), Err((9, 0)));
+        assert_eq!(rt;
+            observer.read(says(1, 43, 1_000_001)).map_err(told),
+            Err((9, 1))
+        );
+        assert_eq!(rt; observer.take(reads(16, 2, 1)).map_err(told), Err((8, 16)));
         check_state(&rt, &observer, 0, &[ONE, START, ONE, ONE]);
         observer.take(Event::Step)?;
         let stepped = [0, -46, 0, 55, 0, 55, 103, 57, 0];
@@ -237,32 +219,27 @@ mod tests {
             (observer.steps, observer.in_play, observer.sets.len()),
             (1_000_000, 1, 1)
         );
-        check_numbers(&rt, observer.table.as_slice(), &[0, 0, 2_000_000, 0]);
-        check_refused(&rt, observer.step(), 11, 1_000_001)?;
+        assert_eq!(rt; observer.table.as_slice(), [0, 0, 2_000_000, 0].as_slice());
+        assert_eq!(rt; observer.step().map_err(told), Err((11, 1_000_001)));
         assert_eq!(rt; observer.take_all(&[Event::Step, reads(0, 5, 7)]), 1);
         assert_eq!(rt; observer.steps, 1_000_000);
-        check_numbers(&rt, observer.table.as_slice(), &[0, -5, 7, 0]);
+        assert_eq!(rt; observer.table.as_slice(), [0, -5, 7, 0].as_slice());
         row.push(Event::Step)?;
-        check_no_observer(
-            &rt,
-            Observer::after(heap, small(heap)?, row.as_slice()),
-            11,
-            1_000_001,
-        )?;
+        assert_eq!(rt;
+            refused(Observer::after(heap, small(heap)?, row.as_slice())),
+            Some((11, 1_000_001))
+        );
         row.push(reads(0, 0, 1_000_001))?;
-        check_no_observer(
-            &rt,
-            Observer::after(heap, small(heap)?, row.as_slice()),
-            9,
-            1,
-        )?;
+        assert_eq!(rt;
+            refused(Observer::after(heap, small(heap)?, row.as_slice())),
+            Some((9, 1))
+        );
         row.push(reads(1, 0, 1))?;
-        check_no_observer(
-            &rt,
-            Observer::after(heap, small(heap)?, row.as_slice()),
-            8,
-            1,
-        )
+        assert_eq!(rt;
+            refused(Observer::after(heap, small(heap)?, row.as_slice())),
+            Some((8, 1))
+        );
+        Ok(())
     }
 
     // Of four sets of two basins, 36 numbers: the length is looked at before the reading.
@@ -271,38 +248,39 @@ mod tests {
         let plant = example(rt.alloc())?;
         let sets = [NONE, BLAMED[0], BLAMED[1], BLAMED[2]];
         let mut short = [7; 35];
-        check_refused(&rt, start_table(&plant, &sets, &mut short), 3, 35)?;
-        check_refused(&rt, step_table(&plant, &sets, &mut short), 3, 35)?;
-        check_refused(
-            &rt,
-            read_table(&plant, &sets, says(3, 2, 1), &mut short),
-            3,
-            35,
-        )?;
-        check_numbers(&rt, &short, &[7; 35]);
+        assert_eq!(rt;
+            start_table(&plant, &sets, &mut short).map_err(told),
+            Err((3, 35))
+        );
+        assert_eq!(rt;
+            step_table(&plant, &sets, &mut short).map_err(told),
+            Err((3, 35))
+        );
+        assert_eq!(rt;
+            read_table(&plant, &sets, says(3, 2, 1), &mut short).map_err(told),
+            Err((3, 35))
+        );
+        assert_eq!(rt; short, [7; 35]);
         let mut long = [7; 45];
-        check_refused(&rt, start_table(&plant, &sets, &mut long), 3, 45)?;
-        check_numbers(&rt, &long, &[7; 45]);
-        check_refused(
-            &rt,
-            start_table(&plant, &sets[0..0], &mut short[0..9]),
-            3,
-            9,
-        )?;
+        assert_eq!(rt;
+            start_table(&plant, &sets, &mut long).map_err(told),
+            Err((3, 45))
+        );
+        assert_eq!(rt; long, [7; 45]);
+        assert_eq!(rt;
+            start_table(&plant, &sets[0..0], &mut short[0..9]).map_err(told),
+            Err((3, 9))
+        );
         let mut table = [7; 36];
-        check_refused(
-            &rt,
-            read_table(&plant, &sets, says(3, 2, 1), &mut table),
-            8,
-            3,
-        )?;
-        check_refused(
-            &rt,
-            read_table(&plant, &sets, says(2, 2, 1), &mut table),
-            9,
-            0,
-        )?;
-        check_numbers(&rt, &table, &[7; 36]);
+        assert_eq!(rt;
+            read_table(&plant, &sets, says(3, 2, 1), &mut table).map_err(told),
+            Err((8, 3))
+        );
+        assert_eq!(rt;
+            read_table(&plant, &sets, says(2, 2, 1), &mut table).map_err(told),
+            Err((9, 0))
+        );
+        assert_eq!(rt; table, [7; 36]);
         Ok(())
     }
 
@@ -313,22 +291,30 @@ mod tests {
         let sets = [FaultSet { bits: 0b101 }, BLAMED[1], NONE];
         let mut table = [7; 27];
         start_table(&plant, &sets, &mut table)?;
-        for zone in table.chunks_exact(9) {
-            check_numbers(&rt, zone, &START);
-        }
+        check_zones(&rt, &table, &[START; 3]);
         read_table(&plant, &sets, says(1, 0, 5), &mut table)?;
         let low = [0, 0, 0, 100, 0, 100, 5, 5, 0];
-        check_numbers(&rt, &table[0..9], &low);
-        check_numbers(&rt, &table[9..18], &START);
-        check_numbers(&rt, &table[18..27], &low);
+        check_zones(&rt, &table, &[low, START, low]);
         read_table(&plant, &sets, says(2, 0, 0), &mut table)?;
-        check_numbers(&rt, &table[0..9], &low);
-        check_numbers(&rt, &table[9..18], &[0, 0, 0, 100, 0, 0, 100, 0, 0]);
-        check_numbers(&rt, &table[18..27], &[0, 0, 0, 5, 0, 0, 5, 0, 0]);
+        check_zones(
+            &rt,
+            &table,
+            &[
+                low,
+                [0, 0, 0, 100, 0, 0, 100, 0, 0],
+                [0, 0, 0, 5, 0, 0, 5, 0, 0],
+            ],
+        );
         step_table(&plant, &sets, &mut table)?;
-        check_numbers(&rt, &table[0..9], &[0, 0, 0, 103, 0, 103, 8, 8, 0]);
-        check_numbers(&rt, &table[9..18], &[0, 0, 0, 103, 0, 5, 103, 5, 0]);
-        check_numbers(&rt, &table[18..27], &[0, 0, 0, 8, 0, 5, 8, 5, 0]);
+        check_zones(
+            &rt,
+            &table,
+            &[
+                [0, 0, 0, 103, 0, 103, 8, 8, 0],
+                [0, 0, 0, 103, 0, 5, 103, 5, 0],
+                [0, 0, 0, 8, 0, 5, 8, 5, 0],
+            ],
+        );
         Ok(())
     }
 }

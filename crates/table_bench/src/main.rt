@@ -11,14 +11,6 @@ use std::time::Instant;
 use table::Observer;
 use zones::{Range, Rate};
 
-// What is done in a round.
-#[derive(Clone, Copy)]
-enum Work {
-    Step,
-    Read,
-    Both,
-}
-
 fn gauge(first: u8, second: u8) -> Gauge {
     Gauge { first, second }
 }
@@ -71,43 +63,66 @@ fn trace(sum: i64, number: i64) -> i64 {
     sum.wrapping_mul(31).wrapping_add(number)
 }
 
-fn do_round(work: Work, round: usize, observer: &mut Observer) {
-    if let Work::Step | Work::Both = work {
-        let _ = observer.step();
-    }
-    if let Work::Read | Work::Both = work {
-        let _ = observer.read(reading(round));
-    }
+// What is done in a round.
+fn step(observer: &mut Observer, _round: usize) {
+    let _ = observer.step();
 }
 
-// What is left after so many rounds: one number of the table for each, and the whole of it at the end.
-fn rounds_of(heap: Global, rounds: usize, work: Work) -> Result<i64, Failure> {
+fn read(observer: &mut Observer, round: usize) {
+    let _ = observer.read(reading(round));
+}
+
+fn step_and_read(observer: &mut Observer, round: usize) {
+    step(observer, round);
+    read(observer, round);
+}
+
+// What is left after so many rounds of work: one number of the table for each, and the whole of it at the end.
+fn rounds_of<F: Fn(&mut Observer, usize)>(
+    heap: Global,
+    rounds: usize,
+    work: F,
+) -> Result<i64, Failure>
+    requires { F.IsAlwaysCallable work }
+{
     let mut observer = Observer::new(heap, plant(heap)?)?;
-    for k in 0..12 {
-        let _ = observer.read(reading(k));
+    for round in 0..12 {
+        read(&mut observer, round);
     }
     let mut sum = 0;
     for round in 0..rounds {
-        do_round(work, round, &mut observer);
+        work(&mut observer, round);
         let length = observer.table.len().max(1);
         if let Some(number) = observer.table.get(round % length) {
             sum = trace(sum, *number);
         }
     }
-    for number in observer.table.iter() {
-        sum = trace(sum, *number);
-    }
-    Ok(sum)
+    Ok(
+        observer
+            .table
+            .iter()
+            .fold(sum, |sum, number| trace(sum, *number)),
+    )
 }
 
-fn left_by(rt: &HostRuntime, rounds: usize, work: Work) -> anyhow::Result<i64> {
-    match rounds_of(rt.alloc(), rounds, work) {
-        Ok(sum) => Ok(sum),
-        Err(_) => Err(anyhow!("no observer")),
-    }
+fn left_by<F: Fn(&mut Observer, usize)>(
+    rt: &HostRuntime,
+    rounds: usize,
+    work: F,
+) -> anyhow::Result<i64>
+    requires { F.IsAlwaysCallable work }
+{
+    rounds_of(rt.alloc(), rounds, work).map_err(|_| anyhow!("no observer"))
 }
 
-fn time(rt: &HostRuntime, what: &str, rounds: usize, work: Work) -> anyhow::Result<()> {
+fn time<F: Fn(&mut Observer, usize)>(
+    rt: &HostRuntime,
+    what: &str,
+    rounds: usize,
+    work: F,
+) -> anyhow::Result<()>
+    requires { F.IsAlwaysCallable work }
+{
     let start = Instant::now(rt)?;
     let sum = left_by(rt, rounds, work)?;
     let nanos = start.elapsed(rt)?.as_nanos() / (rounds as u128).max(1);
@@ -121,15 +136,15 @@ fn run(rt: &HostRuntime) -> anyhow::Result<()> {
     match args.next() {
         Some(rounds) => {
             let rounds = rounds.as_str().parse::<usize>()?;
-            time(rt, "step", rounds, Work::Step)?;
-            time(rt, "read", rounds, Work::Read)?;
-            time(rt, "both", rounds, Work::Both)
+            time(rt, "step", rounds, step)?;
+            time(rt, "read", rounds, read)?;
+            time(rt, "both", rounds, step_and_read)
         }
         None => {
-            let step = left_by(rt, 20, Work::Step)?;
-            let read = left_by(rt, 20, Work::Read)?;
-            let both = left_by(rt, 20, Work::Both)?;
-            println!(rt; "step {step}\nread {read}\nboth {both}")?;
+            let stepped = left_by(rt, 20, step)?;
+            let read_alone = left_by(rt, 20, read)?;
+            let both = left_by(rt, 20, step_and_read)?;
+            println!(rt; "step {stepped}\nread {read_alone}\nboth {both}")?;
             Ok(())
         }
     }

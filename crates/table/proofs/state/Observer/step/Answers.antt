@@ -12,14 +12,14 @@ returns c =
     let o = c.args.self.now in
     let p = o.plant in
     let ys : List ℤ = c.step_table.new.table in
-    let long : length ys ≡ o.table.len = omega (arith, c.step_table.auto.table, c.as_mut_slice.ensures.len) in
+    let long : length ys ≡ o.table.len = omega (arith, c.step_table.auto.table, c.deref_mut.ensures.len) in
     let ts : List ℤ = vec_items (with_items o.table ys) in
     let stepped : AllStep p.basins (vec_items p.rates) (length (vec_items o.sets)) (vec_items o.table) ts =
     subst (AllStep p.basins (vec_items p.rates) (length (vec_items o.sets)) (vec_items o.table))
     (sym (with_items_is o.table ys long))
-    (subst (λ xs. AllStep p.basins (vec_items p.rates) (length (vec_items o.sets)) xs ys) c.as_mut_slice.ensures.value
-    (subst (λ (ss : List FaultSet). AllStep p.basins (vec_items p.rates) (length ss) c.as_mut_slice.result.now ys)
-    c.as_slice.ensures.value c.in_ok-step_table.ensures.1)) in (
+    (subst (λ xs. AllStep p.basins (vec_items p.rates) (length (vec_items o.sets)) xs ys) c.deref_mut.ensures.value
+    (subst (λ (ss : List FaultSet). AllStep p.basins (vec_items p.rates) (length ss) c.deref_mut.result.now ys)
+    c.deref.ensures.value c.in_ok-step_table.ensures.1)) in (
       c.in_ok-check_step.ensures,
       record {
         plant = refl;
