@@ -28,6 +28,7 @@ pub fn take_lines<R: Read + Drop, T: TakeLines>(
 {
     let mut input = BufReader::new(heap, from).map_err(Halt::Reading)?;
     let mut line = Vec::new(heap);
+    // no input has more lines: every loop has an end
     for _turn in 0..u64::MAX {
         line.clear();
         if input.read_until(b'\n', &mut line).map_err(Halt::Reading)? == 0 {

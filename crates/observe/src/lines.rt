@@ -10,30 +10,22 @@ use crate::halt::Halt;
 use crate::kinds::{Answer, Stage};
 use console::{Console, TakeLines};
 use draft::{PlantError, Stray};
-use refusal::Failure;
+use refusal::{Failure, Refusal};
+use shown::Span;
 use std::alloc::Global;
-use std::io;
 use std::io::{Read, Write};
+use std::{fmt, io};
 use table::Observer;
 use text::{Entry, Format};
 
-// What the level of a basin can be.
-fn tell_basin<O: Write>(observer: &Observer, basin: u32, out: &mut O) -> io::Result<()> {
-    match shown::basin_span(observer, basin) {
-        Ok(span) => writeln!(out, "basin {basin} {span}"),
-        Err(refusal) => writeln!(out, "{refusal}"),
-    }
-}
-
-// What a difference can be.
-fn tell_difference<O: Write>(
-    observer: &Observer,
-    first: u32,
-    second: u32,
+// What a basin or a difference can be.
+fn tell_span<O: Write, D: fmt::Display + Drop>(
+    of: D,
+    span: Result<Span, Refusal>,
     out: &mut O,
 ) -> io::Result<()> {
-    match shown::difference_span(observer, first, second) {
-        Ok(span) => writeln!(out, "difference {first} {second} {span}"),
+    match span {
+        Ok(span) => writeln!(out, "{of} {span}"),
         Err(refusal) => writeln!(out, "{refusal}"),
     }
 }
@@ -42,11 +34,13 @@ fn tell_difference<O: Write>(
 fn show<O: Write>(observer: &Observer, out: &mut O) -> io::Result<()> {
     let end = observer.plant.basins as u32 + 1;
     for basin in 1..end {
-        tell_basin(observer, basin, out)?;
+        let span = shown::basin_span(observer, basin);
+        tell_span(format_args!("basin {basin}"), span, out)?;
     }
     for first in 1..end {
         for second in first + 1..end {
-            tell_difference(observer, first, second, out)?;
+            let span = shown::difference_span(observer, first, second);
+            tell_span(format_args!("difference {first} {second}"), span, out)?;
         }
     }
     let names = shown::names(observer);
