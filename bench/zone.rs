@@ -94,7 +94,7 @@ pub fn step(basins: usize, rates: &[(u32, u32)], zone: &mut [i64]) -> Result<(),
         for j in 0..width {
             if i != j {
                 let at = i * width + j;
-                zone[at] = sum(zone[at], rise(i) + fall(j));
+                zone[at] = sum(rise(i) + fall(j), zone[at]);
             }
         }
     }

@@ -1,7 +1,7 @@
 -- A plant's lines as they come. Assumes nothing: these are definitions.
 use Rattle.std.specs.Prelude.{◌≡◌, ℕ, min, cond, List, replicate, ℤ, pos, negsuc, Some, None, Ok, Err, Option, Result, MatchResult, nat_lt, slice_index_or, slice_set}
-use Rattle.entries.specs.declared.entry.Entry.{Entry}
-use Rattle.entries.specs.declared.entry.Entry.TheVariants as entry
+use Rattle.text.specs.declared.entry.Entry.{Entry}
+use Rattle.text.specs.declared.entry.Entry.TheVariants as entry
 use Rattle.zones.specs.declared.kinds.Range.{Range}
 use Rattle.zones.specs.declared.kinds.Rate.{Rate}
 use Rattle.plant.specs.declared.kinds.Gauge.{Gauge}

@@ -16,6 +16,7 @@ mod tests {
     use plant::Gauge;
     use std::process::Abort;
     use std::test::Fail;
+    use text::Format;
     use zones::{Range, Rate};
 
     // Two basins and three gauges, of which one may be wrong.
@@ -34,7 +35,7 @@ mod tests {
 
     // Takes a line, if it has words.
     fn note(draft: &mut Draft, number: u64, line: &str) -> Result<(), Fail> {
-        if let Some(entry) = entries::parse(line)? {
+        if let Some(entry) = text::parse(line, Format::WithAlarms)? {
             draft.note(number, entry)?;
         }
         Ok(())
@@ -56,7 +57,7 @@ mod tests {
         line: &str,
         message: &str,
     ) -> Result<(), Fail> {
-        let Some(entry) = entries::parse(line)? else {
+        let Some(entry) = text::parse(line, Format::WithAlarms)? else {
             return Err(Fail::new(line));
         };
         match draft.note(12, entry) {

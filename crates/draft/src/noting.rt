@@ -6,8 +6,8 @@ ghost use Rattle.draft.specs.Numbers.{basin_index};
 use crate::errors::{DraftError, Item};
 use crate::kinds::{BASINS, Draft, Lined, PLACES};
 use crate::numbers::{clamp_u8, clamp_u32};
-use entries::Entry;
 use plant::Gauge;
+use text::Entry;
 use zones::{Range, Rate};
 
 // Keeps what is said for the first time.

@@ -1,7 +1,7 @@
 -- A line counts once. Assumes nothing.
 use Rattle.std.proofs.Common.{◌≡◌, ℕ, ◌+◌, ◌-◌, ◌^◌, ◌<◌, ◌≤◌, List, Some, None, Ok, Err, Option, Result, sym, subst, arith}
 use Rattle.text.specs.declared.entry.Entry.{Entry}
-use Rattle.text.specs.declared.entry.Entry.TheVariants.{Basins, Gauges, Wrong, Range, Rate, Gauge, Step, Read, Show}
+use Rattle.text.specs.declared.entry.Entry.TheVariants.{Basins, Gauges, Wrong, Range, Rate, Gauge, Step, Read, Show, Alarm}
 use Rattle.text.specs.declared.error.LineError.{LineError}
 use Rattle.follow.specs.declared.counts.Counts.{Counts}
 use Rattle.follow.specs.Counted.{more, steps_after, readings_after, noted, Noted}
@@ -23,6 +23,7 @@ entry_once (Gauge g a b) s r = omega arith
 entry_once Step s r = omega (arith, more_le s)
 entry_once (Read g l h) s r = omega (arith, more_le r)
 entry_once Show s r = omega arith
+entry_once (Alarm b l) s r = omega arith
 
 -- each line counts at most once
 abbrev pub Once : Counts → Type 0

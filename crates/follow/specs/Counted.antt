@@ -1,8 +1,9 @@
 -- What has been read so far. Assumes nothing.
 use Rattle.std.specs.Prelude.{◌≡◌, ℕ, ◌+◌, ◌-◌, ◌^◌, min, List, ◌++◌, Some, None, Ok, Err, codes, IsUtf8, decimal, Option, Result, String}
 use Rattle.std.specs.declared.alloc.Global.{Global}
+use Rattle.text.specs.declared.entry.Format.TheVariants.{WithoutAlarms}
 use Rattle.text.specs.declared.entry.Entry.{Entry}
-use Rattle.text.specs.declared.entry.Entry.TheVariants.{Basins, Gauges, Wrong, Range, Rate, Gauge, Step, Read, Show}
+use Rattle.text.specs.declared.entry.Entry.TheVariants.{Basins, Gauges, Wrong, Range, Rate, Gauge, Step, Read, Show, Alarm}
 use Rattle.text.specs.declared.error.LineError.{LineError}
 use Rattle.text.specs.declared.error.LineError.TheVariants.{NotText}
 use Rattle.text.specs.Lines.{Parses}
@@ -26,6 +27,7 @@ steps_after (Gauge g a b) k = k
 steps_after Step k = more k
 steps_after (Read g l h) k = k
 steps_after Show k = k
+steps_after (Alarm b l) k = k
 
 abbrev pub readings_after : Entry → ℕ → ℕ
 readings_after (Basins n) k = k
@@ -37,6 +39,7 @@ readings_after (Gauge g a b) k = k
 readings_after Step k = k
 readings_after (Read g l h) k = more k
 readings_after Show k = k
+readings_after (Alarm b l) k = k
 
 -- the counts after a line that was read so
 abbrev pub noted : Result (Option Entry) LineError → Counts → Counts
@@ -48,7 +51,7 @@ noted (Err x) c = record { lines = more c.lines; steps = c.steps; readings = c.r
 -- the counts after a line of these bytes, which may be no text
 pub record Noted (bytes : List ℕ) (before after : Counts) : Type 0 where
   pub reading : Result (Option Entry) LineError
-  pub text : IsUtf8 bytes → Parses bytes reading
+  pub text : IsUtf8 bytes → Parses WithoutAlarms bytes reading
   pub other : (IsUtf8 bytes → ⊥) → reading ≡ Err NotText
   pub counts : after ≡ noted reading before
 

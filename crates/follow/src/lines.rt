@@ -1,14 +1,12 @@
 // Lines from any input, read and answered one by one.
-ghost use Rattle.std.specs.Prelude.{◌≡◌, ◌+◌, ◌≤◌, IfOk, Err, IsUtf8};
-ghost use Rattle.text.specs.declared.error.LineError.TheVariants.{NotText};
-ghost use Rattle.text.specs.Lines.{Parses};
+ghost use Rattle.std.specs.Prelude.{◌+◌, ◌≤◌, IfOk};
 ghost use Rattle.follow.specs.Counted.{Noted};
 
 use crate::counts::Counts;
 use std::alloc::Global;
 use std::io::{BufRead, BufReader, Read, Write};
 use std::{fmt, io};
-use text::{Entry, LineError};
+use text::{Entry, Format};
 
 // Why following ended before the input did.
 #[derive(Drop)]
@@ -26,17 +24,6 @@ impl fmt::Display for Halt {
     }
 }
 
-// Bytes that are no UTF-8 are no line.
-fn read_line(bytes: &[u8]) -> Result<Option<Entry>, LineError<'_>>
-    ensures text { IsUtf8 bytes.now → Parses bytes.now result }
-    ensures other { (IsUtf8 bytes.now → ⊥) → result ≡ Err NotText }
-{
-    match std::str::from_utf8(bytes) {
-        Ok(line) => text::parse(line),
-        Err(_) => Err(LineError::NotText),
-    }
-}
-
 // Counts one line, and prints its answer or what is wrong with it.
 fn take<O: Write, E: Write>(
     counts: &mut Counts,
@@ -46,7 +33,7 @@ fn take<O: Write, E: Write>(
 ) -> io::Result<()>
     ensures { Noted bytes.now counts.old counts.new }
 {
-    let reading = read_line(bytes);
+    let reading = text::parse_bytes(bytes, Format::WithoutAlarms);
     counts.note(&reading);
     match reading {
         Ok(Some(Entry::Show)) => {

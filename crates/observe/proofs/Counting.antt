@@ -1,7 +1,7 @@
 -- A line counts once. Assumes nothing.
 use Rattle.std.proofs.Common.{◌≡◌, ℕ, ◌+◌, ◌-◌, ◌^◌, ◌<◌, ◌≤◌, Bool, true, false, List, Some, None, Ok, Err, Option, Result, sym, refl, subst, arith}
-use Rattle.entries.specs.declared.entry.Entry.{Entry}
-use Rattle.entries.specs.declared.error.LineError.{LineError}
+use Rattle.text.specs.declared.entry.Entry.{Entry}
+use Rattle.text.specs.declared.error.LineError.{LineError}
 use Rattle.observe.specs.declared.counts.Counts.{Counts}
 use Rattle.observe.specs.declared.follower.Follower.{Follower}
 use Rattle.observe.specs.declared.kinds.Answer.{Answer}

@@ -2,11 +2,12 @@
 use Rattle.std.specs.Prelude.{◌≡◌, ℕ, ◌^◌, Bool, true, false, List, [], length, ℤ, pos, negsuc, Some, None, Ok, Err, IsUtf8, Option, Result, MatchResult, nat_lt}
 use Rattle.refusal.specs.Order.{when}
 use Rattle.refusal.specs.declared.kinds.Refusal.{Refusal}
-use Rattle.entries.specs.Lines.{Parses}
-use Rattle.entries.specs.declared.error.LineError.{LineError}
-use Rattle.entries.specs.declared.error.LineError.TheVariants.{NotText}
-use Rattle.entries.specs.declared.entry.Entry.{Entry}
-use Rattle.entries.specs.declared.entry.Entry.TheVariants.{Basins, Gauges, Wrong, Range, Rate, Gauge, Step, Read, Show, Alarm}
+use Rattle.text.specs.Lines.{Parses}
+use Rattle.text.specs.declared.entry.Format.TheVariants.{WithAlarms}
+use Rattle.text.specs.declared.error.LineError.{LineError}
+use Rattle.text.specs.declared.error.LineError.TheVariants.{NotText}
+use Rattle.text.specs.declared.entry.Entry.{Entry}
+use Rattle.text.specs.declared.entry.Entry.TheVariants.{Basins, Gauges, Wrong, Range, Rate, Gauge, Step, Read, Show, Alarm}
 use Rattle.plant.specs.declared.kinds.Event.{Event}
 use Rattle.plant.specs.declared.kinds.Event.TheVariants as event
 use Rattle.plant.specs.Events.{event_refused}
@@ -149,6 +150,6 @@ one_more f = record { counts = lined f.counts; stage = f.stage }
 -- The state after a line of these bytes, which may be no text.
 pub record LineSays (bytes : List ℕ) (f g : Follower) : Type 0 where
   pub reading : Result (Option Entry) LineError
-  pub text : IsUtf8 bytes → Parses bytes reading
+  pub text : IsUtf8 bytes → Parses WithAlarms bytes reading
   pub other : (IsUtf8 bytes → ⊥) → reading ≡ Err NotText
   pub state : Answered reading (one_more f) g

@@ -9,11 +9,11 @@ ghost use Rattle.observe.specs.declared.kinds.Stage.TheVariants.{Drafting, Follo
 use crate::counts::Counts;
 use crate::kinds::{Answer, Stage};
 use draft::{Draft, PlantError, Stray};
-use entries::Entry;
 use plant::GaugeReading;
 use refusal::{Failure, Refusal};
 use std::alloc::{AllocError, Global};
 use table::Observer;
+use text::Entry;
 
 #[derive(Drop)]
 pub struct Follower {

@@ -1,7 +1,5 @@
 // Lines from any input, read and answered one by one.
 ghost use Rattle.std.specs.Prelude.{◌≡◌, true, IfOk, Err, IsUtf8, OnOk};
-ghost use Rattle.entries.specs.declared.error.LineError.TheVariants.{NotText};
-ghost use Rattle.entries.specs.Lines.{Parses};
 ghost use Rattle.observe.specs.Counted.{Once, none};
 ghost use Rattle.observe.specs.Followed.{Entered, LineSays, Ready};
 
@@ -10,12 +8,12 @@ use crate::follower::{Follower, ends_plant};
 use crate::halt::Halt;
 use crate::kinds::{Answer, Stage};
 use draft::{PlantError, Stray};
-use entries::{Entry, LineError};
 use refusal::Refusal;
 use std::alloc::Global;
 use std::io;
 use std::io::{BufRead, BufReader, Read, Write};
 use table::Observer;
+use text::{Entry, Format};
 
 // ---- what is printed: refusals and what is shown on `out`, what is wrong with a line on `err`
 
@@ -104,17 +102,6 @@ fn tell_strays<E: Write>(strays: &[Stray], err: &mut E) -> io::Result<()> {
     err.flush()
 }
 
-// Bytes that are no UTF-8 are no line.
-fn read_line(bytes: &[u8]) -> Result<Option<Entry>, LineError<'_>>
-    ensures text { IsUtf8 bytes.now → Parses bytes.now result }
-    ensures other { (IsUtf8 bytes.now → ⊥) → result ≡ Err NotText }
-{
-    match std::str::from_utf8(bytes) {
-        Ok(line) => entries::parse(line),
-        Err(_) => Err(LineError::NotText),
-    }
-}
-
 // Ends the plant, if it has not ended, and tells what is wrong with it.
 fn begin<O: Write, E: Write>(
     follower: &mut Follower,
@@ -167,7 +154,7 @@ fn take<O: Write, E: Write>(
     ensures { OnOk result (LineSays bytes.now follower.old follower.new) }
 {
     follower.counts.line();
-    match read_line(bytes) {
+    match text::parse_bytes(bytes, Format::WithAlarms) {
         Ok(said) => match said {
             Some(entry) => {
                 enter(follower, heap, entry, out, err)?;

@@ -15,7 +15,7 @@ use Rattle.theory.proofs.Bounds.{difference_flip, difference_datum}
 use Rattle.theory.proofs.Shown.{shows_same, datum_possible}
 use Rattle.theory.proofs.Trajectories.{wrong_or_blamed}
 use Rattle.bounds.specs.Meaning.{bound_of}
-use Rattle.faults.specs.Sets.{bit_set}
+use Rattle.faults.specs.Sets.{gauge_set}
 use Rattle.plant.specs.declared.kinds.Event.{Event}
 use Rattle.plant.specs.Resolve.{resolved, start_of}
 use Rattle.table.specs.declared.state.Observer.{Observer}
@@ -28,7 +28,7 @@ use Rattle.shown.specs.declared.kinds.Alarm.TheVariants as alarm
 use Rattle.shown.specs.declared.kinds.Names.{Names}
 use Rattle.shown.specs.Says.{basin_refused}
 use Rattle.shown.specs.Meaning.{Upper, Lower, Exact, Rings, Told}
-use Rattle.shown.specs.Computed.{largest, above_end, below_end, span_of, exceeds, alarm_of, all_without, in_each}
+use Rattle.shown.specs.Computed.{largest_of, none_has_levels, in_each_of, above_end, below_end, span_of, exceeds, alarm_of, in_each}
 use Rattle.shown.proofs.Showing.{shown_upper, largest_floor, none_told, blamed_told}
 
 -- ---- ends
@@ -66,7 +66,7 @@ module _ (P : Levels → Type 0) where
 
   -- ---- alarms
   -- over a quantity of which the span is exact
-  rings : (q : Levels → ℤ) (s : Span) (limit : ℤ) → Exact s q P → Rings (alarm_of s limit) q P limit
+  pub rings : (q : Levels → ℤ) (s : Span) (limit : ℤ) → Exact s q P → Rings (alarm_of s limit) q P limit
   rings q span.Nothing limit e = λ x p. absurd (e x p)
   rings q (span.Ends low high) limit (lo, hi) = go (exceeds false limit low) refl (exceeds true limit high) refl
     where
@@ -133,22 +133,19 @@ module _ (o : Observer) (es : List Event) (t : Tracks o es) where
   abbrev numbers : List ℤ
   numbers = vec_items o.table
 
-  abbrev top : ℕ → ℕ → Option ℤ
-  top i j = largest o.plant.basins numbers i j (length (vec_items o.sets))
-
   shows : (i j : ℕ) → i ≤ o.plant.basins → j ≤ o.plant.basins →
-      ShowsUpper possible (λ x. difference x i j) (option_map bound_of (top i j))
+      ShowsUpper possible (λ x. difference x i j) (option_map bound_of (largest_of o i j))
   shows i j hi hj =
       let n = o.plant.basins in let g = o.in_play in let f = o.plant.wrong in
       let hs : List history.Event = resolved o.plant es in
       let same = (wrong_or_blamed n g f (start_of o.plant) hs).0 in
-      shows_same (Explained n g f (start_of o.plant) hs) possible (λ x. difference x i j) (option_map bound_of (top i j))
+      shows_same (Explained n g f (start_of o.plant) hs) possible (λ x. difference x i j) (option_map bound_of (largest_of o i j))
       (λ x. (same x).1) (λ x. (same x).0)
       (shown_upper n g f o.steps (start_of o.plant) hs (vec_items o.sets) numbers t.listed t.follows i j hi hj)
 
   pub span_exact : (i j : ℕ) → i ≤ o.plant.basins → j ≤ o.plant.basins →
-      Exact (span_of (top j i) (top i j)) (λ x. difference x i j) possible
-  span_exact i j hi hj = go (top j i) (top i j) (shows j i hj hi) (shows i j hi hj)
+      Exact (span_of (largest_of o j i) (largest_of o i j)) (λ x. difference x i j) possible
+  span_exact i j hi hj = go (largest_of o j i) (largest_of o i j) (shows j i hj hi) (shows i j hi hj)
       (λ v e. largest_floor o.plant.basins o.in_play o.plant.wrong o.steps (start_of o.plant) (resolved o.plant es)
       (vec_items o.sets) numbers t.listed t.follows o.counted j i hj hi v e)
     where
@@ -165,16 +162,16 @@ module _ (o : Observer) (es : List Event) (t : Tracks o es) where
       go (Some low) (Some high) a b size =
           (lower_of _ i j low (size low refl) a, upper_of _ (λ x. difference x i j) high b)
 
-  pub level_exact : (i : ℕ) → i ≤ o.plant.basins → Exact (span_of (top 0 i) (top i 0)) (level i) possible
+  pub level_exact : (i : ℕ) → i ≤ o.plant.basins → Exact (span_of (largest_of o 0 i) (largest_of o i 0)) (level i) possible
   level_exact i hi =
       exact_same possible (λ x. difference x i 0) (level i) (λ x p. difference_datum x i (datum_possible p))
-      (span_of (top 0 i) (top i 0)) (span_exact i 0 hi (omega arith))
+      (span_of (largest_of o 0 i) (largest_of o i 0)) (span_exact i 0 hi (omega arith))
 
   pub alarm_rings : (i : ℕ) (limit : ℤ) → i ≤ o.plant.basins →
-      Rings (alarm_of (span_of (top 0 i) (top i 0)) limit) (level i) possible limit
-  alarm_rings i limit hi = rings possible (level i) (span_of (top 0 i) (top i 0)) limit (level_exact i hi)
+      Rings (alarm_of (span_of (largest_of o 0 i) (largest_of o i 0)) limit) (level i) possible limit
+  alarm_rings i limit hi = rings possible (level i) (span_of (largest_of o 0 i) (largest_of o i 0)) limit (level_exact i hi)
 
-  pub none_decided : Decides (all_without o.plant.basins numbers (length (vec_items o.sets)))
+  pub none_decided : Decides (none_has_levels o)
       (NonePossible o.plant.basins o.in_play o.plant.wrong (start_of o.plant) (resolved o.plant es))
   none_decided =
       let n = o.plant.basins in let g = o.in_play in let f = o.plant.wrong in
@@ -192,11 +189,10 @@ module _ (o : Observer) (es : List Event) (t : Tracks o es) where
       let d = blamed_told n g f o.steps (start_of o.plant) hs (vec_items o.sets) numbers t.listed t.follows a in
       (λ e. same.1 (d.0 e), λ p. d.1 (same.0 p))
 
-  -- the names, from the bits of a number
+  -- the names
   pub names_told : (m : Names) → o.in_play ≤ 12 →
-      ((a : ℕ) → bit_set m.bits a
-      ≡ (ltb a o.in_play && ltb a 16) && in_each o.plant.basins (vec_items o.sets) numbers a (length (vec_items o.sets))) →
-      m.none ≡ all_without o.plant.basins numbers (length (vec_items o.sets)) →
+      ((a : ℕ) → gauge_set m.gauges a ≡ in_each_of o a) →
+      m.none ≡ none_has_levels o →
       Told o.plant.basins o.in_play o.plant.wrong (start_of o.plant) (resolved o.plant es) m
   names_told m few bits none_is = record {
     gauges = λ a h. subst (λ b. Decides b (AlwaysWrong o.plant.basins o.in_play o.plant.wrong (start_of o.plant)

@@ -7,7 +7,7 @@ use Rattle.theory.specs.History as history
 use Rattle.theory.specs.Possible.{Possible}
 use Rattle.theory.proofs.Orders.{Carries, wrong_carried}
 use Rattle.theory.proofs.Trajectories.{carried}
-use Rattle.faults.specs.Sets.{bit_set}
+use Rattle.faults.specs.Sets.{gauge_set}
 use Rattle.shown.specs.declared.kinds.End.{End}
 use Rattle.shown.specs.declared.kinds.End.TheVariants as end
 use Rattle.shown.specs.declared.kinds.Span.{Span}
@@ -105,7 +105,7 @@ module _ (n g f : ℕ) (start : Ranges) (es fs : List history.Event) (c : Carrie
   possible_before x = carried (λ w. c w x)
 
   name_kept : (old new : Names) → Told n g f start es old → Told n g f start fs new → (a : ℕ) →
-      bit_set old.bits a ≡ true → bit_set new.bits a ≡ true
+      gauge_set old.gauges a ≡ true → gauge_set new.gauges a ≡ true
   name_kept old new d e a t =
       ⊎_elim (λ l. (e.gauges a l).1 (wrong_carried n g f start fs es a c ((d.gauges a l).0 t)))
       (λ l. absurd (false≢true (sym (d.others a l) ∙ t))) (cases_lt a g)

@@ -1,9 +1,11 @@
 -- What the zones of a table say together, in terms of all histories that an observer tracks. Assumes nothing.
-use Rattle.std.proofs.Common.{◌≡◌, ℕ, zero, suc, ◌+◌, ◌*◌, ◌^◌, ◌<◌, ◌≤◌, Bool, true, false, cond, ◌&&◌, ◌||◌, ◌⊎◌, List, length, get_or, ℤ, pos, neg_ℤ, ◌≤ℤ◌, Some, None, Decides, Option, sym, refl, ap, ◌∙◌, subst, inl, inr, ⊎_elim, arith}
+use Rattle.std.proofs.Common.{◌≡◌, ℕ, zero, suc, ◌+◌, ◌*◌, ◌^◌, ◌<◌, ◌≤◌, Bool, true, false, cond, ◌||◌, ◌⊎◌, List, length, get_or, ℤ, pos, neg_ℤ, ◌≤ℤ◌, Some, None, Decides, Option, sym, refl, ap, ◌∙◌, subst, inl, inr, ⊎_elim, arith}
 use lib.Signed.{lt_z}
 use Rattle.std.proofs.ByRecursion.{All-from_get_or, All-get_or}
 use Rattle.std.proofs.lemmas.Int.{ints}
-use Rattle.std.proofs.lemmas.Bool.{both_ways, cases_eq, true≢false, false≢true}
+use Rattle.std.proofs.Math.Bool.{and_comm}
+use Rattle.std.proofs.lemmas.Bool.Decides.{Decides-below_and}
+use Rattle.std.proofs.lemmas.Bool.{both_ways, cases_eq, true≢false}
 use Rattle.std.specs.Int.{int_max}
 use Rattle.std.specs.Option.{option_map}
 use Rattle.theory.specs.Bound.{Bound, none, at_most, Holds}
@@ -27,23 +29,13 @@ use Rattle.faults.specs.Sets.{gauge_set, Few, Lists}
 use Rattle.faults.proofs.Represent.{of_listed_sets, few_gauges}
 use Rattle.table.specs.Parts.{part}
 use Rattle.table.specs.Tracks.{AtRest, Follows}
-use Rattle.shown.proofs.Counting.{larger_none}
-use Rattle.shown.specs.Computed.{without_levels, larger, largest, all_without, in_each}
+use Rattle.shown.proofs.Zones.{larger_none}
+use Rattle.shown.specs.Computed.{lacks_levels, without_levels, larger, largest, all_without, in_each}
 
-and_both : (a b : Bool) → (a && b) ≡ true → (a ≡ true) × (b ≡ true)
-and_both true b e = (refl, e)
-and_both false b e = absurd (false≢true e)
-
-and_of : (a b : Bool) → a ≡ true → b ≡ true → (a && b) ≡ true
-and_of a b e f = rw (e, f) refl
-
-or_other : (a b : Bool) → a ≡ false → (a || b) ≡ true → b ≡ true
-or_other true b e f = absurd (true≢false e)
-or_other false b e f = f
-
-or_of : (a b : Bool) → (a ≡ false → b ≡ true) → (a || b) ≡ true
-or_of true b f = refl
-or_of false b f = f refl
+-- either of two, where the first fails
+or_other : (a b : Bool) → Decides (a || b) (a ≡ false → b ≡ true)
+or_other true b = (λ e f. absurd (true≢false f), λ h. refl)
+or_other false b = (λ e f. e, λ h. h refl)
 
 max_z_one : (a b : ℤ) → (int_max a b ≡ a) ⊎ (int_max a b ≡ b)
 max_z_one a b = grind (arith, ints)
@@ -75,14 +67,19 @@ ToldOf n steps start hs w xs b =
     ((b ≡ true) × ((x : Levels) → History n start w hs x → ⊥))
     ⊎ ((b ≡ false) × Canonical n (zone_of n xs) × Roof (100000 + 10000 * steps) n xs)
 
+-- the first number is the datum's own
+datum : (n : ℕ) (xs : List ℤ) → lacks_levels xs ≡ lt_z (cell n xs 0 0) (pos 0)
+unfolding cell
+datum n xs = let first : 0 ≡ 0 * (n + 1) + 0 = omega arith in ap (λ k. lt_z (get_or xs k (pos 0)) (pos 0)) first
+
 told_of : (n k : ℕ) (start : Ranges) (w : history.FaultSet) (hs : List history.Event) (xs : List ℤ) →
-    Follows n k start w hs xs → ToldOf n k start hs w xs (lt_z (cell n xs 0 0) (pos 0))
+    Follows n k start w hs xs → ToldOf n k start hs w xs (lacks_levels xs)
 told_of n k start w hs xs f = go f.rest
   where
-    tells : TellsEmpty n xs (lt_z (cell n xs 0 0) (pos 0))
-    tells = tells_empty n xs (lt_z (cell n xs 0 0) (pos 0)) refl
+    tells : TellsEmpty n xs (lacks_levels xs)
+    tells = tells_empty n xs (lacks_levels xs) (datum n xs)
 
-    go : AtRest n k xs → ToldOf n k start hs w xs (lt_z (cell n xs 0 0) (pos 0))
+    go : AtRest n k xs → ToldOf n k start hs w xs (lacks_levels xs)
     go (inl e) = inl (tells.none e, λ x h. tells.empty (tells.none e) x (f.kept.sound x h))
     go (inr (ca, ro)) = inr (tells.kept ca, ca, ro)
 
@@ -230,13 +227,9 @@ module _ (n g f steps : ℕ) (start : Ranges) (hs : List history.Event) (sets : 
 
   -- ---- no history
   all_told : (m : ℕ) → Decides (all_without n xs m) ((k : ℕ) → k < m → without_levels n xs k ≡ true)
-  all_told zero = (λ _ k h. absurd (omega arith), λ _. refl)
-  all_told (suc m) =
-      let d = all_told m in (
-        λ e k h. let both = and_both (all_without n xs m) (without_levels n xs m) e in
-            ⊎_elim (λ s. subst (λ q. without_levels n xs q ≡ true) (sym s) both.1) (λ ne. d.0 both.0 k (omega arith)) (cases_eq k m),
-        λ all. and_of (all_without n xs m) (without_levels n xs m) (d.1 (λ k h. all k (omega arith))) (all m (omega arith)),
-      )
+  all_told =
+      Decides-below_and (without_levels n xs) (λ k. without_levels n xs k ≡ true) (all_without n xs) (λ k. (λ e. e, λ e. e)) refl
+      (λ m. and_comm (all_without n xs m) (without_levels n xs m))
 
   pub none_told : Decides (all_without n xs (length sets)) ((x : Levels) → Explained n g f start hs x → ⊥)
   none_told =
@@ -256,16 +249,11 @@ module _ (n g f steps : ℕ) (start : Ranges) (hs : List history.Event) (sets : 
   module _ (a : ℕ) where
     each_told : (m : ℕ) → Decides (in_each n sets xs a m)
         ((k : ℕ) → k < m → without_levels n xs k ≡ false → gauge_set (get_or sets k (record { bits = 0 })) a ≡ true)
-    each_told zero = (λ _ k h. absurd (omega arith), λ _. refl)
-    each_told (suc m) =
-        let d = each_told m in (
-          λ e k h t. let both = and_both (in_each n sets xs a m) _ e in
-              ⊎_elim (λ s. subst (λ q. gauge_set (get_or sets q (record { bits = 0 })) a ≡ true) (sym s)
-              (or_other (without_levels n xs m) _ (subst (λ q. without_levels n xs q ≡ false) s t) both.1))
-              (λ ne. d.0 both.0 k (omega arith) t) (cases_eq k m),
-          λ all. and_of (in_each n sets xs a m) _ (d.1 (λ k h. all k (omega arith)))
-              (or_of (without_levels n xs m) _ (all m (omega arith))),
-        )
+    each_told =
+        Decides-below_and (λ k. without_levels n xs k || gauge_set (get_or sets k (record { bits = 0 })) a)
+        (λ k. without_levels n xs k ≡ false → gauge_set (get_or sets k (record { bits = 0 })) a ≡ true) (in_each n sets xs a)
+        (λ k. or_other (without_levels n xs k) (gauge_set (get_or sets k (record { bits = 0 })) a)) refl
+        (λ m. and_comm (in_each n sets xs a m) _)
 
     pub blamed_told : Decides (in_each n sets xs a (length sets)) (AlwaysBlamed n g f start hs a)
     blamed_told =

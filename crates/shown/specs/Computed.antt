@@ -1,9 +1,10 @@
 -- How the numbers of a table become what is shown. Assumes nothing: these are definitions.
-use Rattle.std.specs.Prelude.{ℕ, zero, suc, ◌-◌, ◌^◌, Bool, true, false, cond, ◌&&◌, ◌||◌, List, ℤ, pos, ◌-ℤ◌, Some, None, Option, int_lt, slice_index_or}
+use Rattle.std.specs.Prelude.{ℕ, zero, suc, ◌-◌, ◌^◌, Bool, true, false, cond, ◌&&◌, ◌||◌, List, length, ℤ, pos, ◌-ℤ◌, Some, None, vec_items, Option, int_lt, nat_lt, slice_index_or}
 use Rattle.std.specs.Int.{int_max, saturate_to_bits}
 use Rattle.zones.specs.Numbers.{cell}
 use Rattle.faults.specs.declared.set.FaultSet.{FaultSet}
 use Rattle.faults.specs.Sets.{gauge_set}
+use Rattle.table.specs.declared.state.Observer.{Observer}
 use Rattle.table.specs.Parts.{part}
 use Rattle.shown.specs.declared.kinds.End.{End}
 use Rattle.shown.specs.declared.kinds.End.TheVariants as end
@@ -12,9 +13,13 @@ use Rattle.shown.specs.declared.kinds.Span.TheVariants as span
 use Rattle.shown.specs.declared.kinds.Alarm.{Alarm}
 use Rattle.shown.specs.declared.kinds.Alarm.TheVariants as alarm
 
--- The zone at place k has no levels: the datum is below itself.
+-- A zone has no levels: its first number, the datum's own, says that the datum is below itself.
+abbrev pub lacks_levels : List ℤ → Bool
+lacks_levels zone = int_lt (slice_index_or zone 0 (pos 0)) (pos 0)
+
+-- The zone at place k has none.
 abbrev pub without_levels : ℕ → List ℤ → ℕ → Bool
-without_levels n xs k = int_lt (cell n (part n k xs) 0 0) (pos 0)
+without_levels n xs k = lacks_levels (part n k xs)
 
 -- The larger of two, if any.
 abbrev pub larger : Option ℤ → Option ℤ → Option ℤ
@@ -38,6 +43,19 @@ abbrev pub in_each : (n : ℕ) → List FaultSet → List ℤ → (a m : ℕ) �
 in_each n sets xs a zero = true
 in_each n sets xs a (suc m) =
     in_each n sets xs a m && (without_levels n xs m || gauge_set (slice_index_or sets m (record { bits = 0 })) a)
+
+-- ---- of an observer
+abbrev pub largest_of : Observer → (i j : ℕ) → Option ℤ
+largest_of o i j = largest o.plant.basins (vec_items o.table) i j (length (vec_items o.sets))
+
+abbrev pub none_has_levels : Observer → Bool
+none_has_levels o = all_without o.plant.basins (vec_items o.table) (length (vec_items o.sets))
+
+-- Gauge a is in play, and in the set of each zone that has levels.
+abbrev pub in_each_of : Observer → ℕ → Bool
+in_each_of o a =
+    (nat_lt a o.in_play && nat_lt a 16)
+    && in_each o.plant.basins (vec_items o.sets) (vec_items o.table) a (length (vec_items o.sets))
 
 -- ---- what is shown of the numbers
 -- The upper end that a number says, and the lower end that the number the other way says.

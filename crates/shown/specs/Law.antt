@@ -3,7 +3,7 @@
 use Rattle.std.specs.Prelude.{◌≡◌, ℕ, true, List, [], ◌∷◌, ◌++◌, ℤ, ◌≤ℤ◌, Ok}
 use Rattle.theory.specs.Level.{Levels}
 use Rattle.theory.specs.Possible.{Possible}
-use Rattle.faults.specs.Sets.{bit_set}
+use Rattle.faults.specs.Sets.{gauge_set}
 use Rattle.plant.specs.declared.kinds.Event.{Event}
 use Rattle.plant.specs.declared.kinds.Event.TheVariants as event
 use Rattle.plant.specs.declared.kinds.GaugeReading.{GaugeReading}
@@ -36,7 +36,7 @@ pub data Reordered : List Event → List Event → Type 0 where
 -- The same is shown.
 abbrev pub SameAnswer : Answer → Answer → Type 0
 SameAnswer (answer.Span s) (answer.Span t) = s ≡ t
-SameAnswer (answer.Names m) (answer.Names k) = ((a : ℕ) → bit_set m.bits a ≡ bit_set k.bits a) × (m.none ≡ k.none)
+SameAnswer (answer.Names m) (answer.Names k) = ((a : ℕ) → gauge_set m.gauges a ≡ gauge_set k.gauges a) × (m.none ≡ k.none)
 SameAnswer (answer.Alarm r) (answer.Alarm s) = r ≡ s
 SameAnswer (answer.Span s) (answer.Names m) = ⊥
 SameAnswer (answer.Span s) (answer.Alarm r) = ⊥
@@ -82,7 +82,7 @@ AlarmKeeps alarm.Sure alarm.Sure = Unit
 abbrev pub NotLessSure : Answer → Answer → Type 0
 NotLessSure (answer.Span old) (answer.Span new) = NotWider new old
 NotLessSure (answer.Names old) (answer.Names new) =
-    ((a : ℕ) → bit_set old.bits a ≡ true → bit_set new.bits a ≡ true) × (old.none ≡ true → new.none ≡ true)
+    ((a : ℕ) → gauge_set old.gauges a ≡ true → gauge_set new.gauges a ≡ true) × (old.none ≡ true → new.none ≡ true)
 NotLessSure (answer.Alarm old) (answer.Alarm new) = AlarmKeeps old new
 NotLessSure (answer.Span s) (answer.Names m) = ⊥
 NotLessSure (answer.Span s) (answer.Alarm r) = ⊥

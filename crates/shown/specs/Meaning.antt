@@ -4,7 +4,7 @@ use Rattle.theory.specs.Level.{Levels, Ranges, level, difference}
 use Rattle.theory.specs.History as history
 use Rattle.theory.specs.Possible.{Possible, NonePossible, AlwaysWrong}
 use Rattle.theory.specs.End.{Greatest, Least, UnboundedAbove, UnboundedBelow}
-use Rattle.faults.specs.Sets.{bit_set}
+use Rattle.faults.specs.Sets.{gauge_set}
 use Rattle.shown.specs.declared.kinds.End.{End}
 use Rattle.shown.specs.declared.kinds.End.TheVariants as end
 use Rattle.shown.specs.declared.kinds.Span.{Span}
@@ -42,8 +42,8 @@ Rings alarm.Sure q P limit = ((x : Levels) × P x) × ((x : Levels) → P x → 
 -- ---- what a request asks, of n basins and g gauges of which at most f are wrong, after events that began within a range
 -- A gauge is named exactly if it is wrong in all histories; that there is no history is said exactly if there is none.
 pub record Told (n g f : ℕ) (start : Ranges) (es : List history.Event) (m : Names) : Type 0 where
-  pub gauges : (a : ℕ) → a < g → Decides (bit_set m.bits a) (AlwaysWrong n g f start es a)
-  pub others : (a : ℕ) → g ≤ a → bit_set m.bits a ≡ false
+  pub gauges : (a : ℕ) → a < g → Decides (gauge_set m.gauges a) (AlwaysWrong n g f start es a)
+  pub others : (a : ℕ) → g ≤ a → gauge_set m.gauges a ≡ false
   pub none : Decides m.none (NonePossible n g f start es)
 
 -- The answer is a span, names or an alarm, with this meaning.

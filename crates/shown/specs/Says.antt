@@ -59,10 +59,12 @@ abbrev pub NamesSay : Observer → Names → Type 0
 NamesSay o m = Observed o request.Names (answer.Names m)
 
 -- ---- a plant with a whole row of events
+-- It is refused first by the readings, then by the request, then by the number of steps.
+abbrev pub asked_refused : Plant → List Event → Request → Option Refusal
+asked_refused p es q =
+    or_else (readings_refused (vec_len p.gauges) es) (or_else (request_refused p.basins q) (steps_refused es))
+
 -- For every row, what is shown is what the histories of its levels say, in which at most as many gauges are wrong as the
--- plant allows. It is refused first by the readings, then by the request, then by the number of steps.
+-- plant allows.
 abbrev pub RowSays : Plant → List Event → Request → Result Answer Failure → Type 0
-RowSays p es q r =
-    Makes r
-    (or_else (readings_refused (vec_len p.gauges) es) (or_else (request_refused p.basins q) (steps_refused es)))
-    (TrueOf p (vec_len p.gauges) es q)
+RowSays p es q r = Makes r (asked_refused p es q) (TrueOf p (vec_len p.gauges) es q)

@@ -1,8 +1,5 @@
 // The answers to requests: from an observer, and for a plant with a whole row of events.
-ghost use Rattle.std.specs.Prelude.{◌≡◌, ℕ, ◌&&◌, length, nat_lt};
 ghost use Rattle.refusal.specs.Order.{Found};
-ghost use Rattle.faults.specs.Sets.{bit_set};
-ghost use Rattle.shown.specs.Computed as computed;
 ghost use Rattle.shown.specs.Says.{AlarmSays, BasinSays, DifferenceSays, NamesSay, ObservedSays, RowSays};
 ghost use Rattle.shown.specs.Says.{basin_refused, pair_refused, request_refused};
 
@@ -68,33 +65,17 @@ pub fn difference_span(observer: &Observer, first: u32, second: u32) -> Result<S
 pub fn alarm(observer: &Observer, basin: u32, limit: i64) -> Result<Alarm, Refusal>
     ensures { AlarmSays observer.now basin limit result }
 {
-    check_basin(observer.plant.basins, basin)?;
-    Ok(alarm_of(span(observer, basin as usize, 0), limit))
-}
-
-// The gauges that are in every set that has levels, and whether none has.
-fn common_gauges(observer: &Observer) -> Names
-    ensures gauges { (a : ℕ) → bit_set result.bits a ≡ (nat_lt a observer.now.in_play && nat_lt a 16)
-        && computed.in_each observer.now.plant.basins observer.now.sets.items
-        observer.now.table.items a (length observer.now.sets.items) }
-    ensures none { result.none ≡ computed.all_without observer.now.plant.basins
-        observer.now.table.items (length observer.now.sets.items) }
-{
-    let basins = observer.plant.basins;
-    let sets = observer.sets.as_slice();
-    let table = observer.table.as_slice();
-    let common = in_each(basins, observer.in_play, sets, table);
-    Names {
-        bits: common.bits,
-        none: all_without(basins, sets.len(), table),
-    }
+    Ok(alarm_of(basin_span(observer, basin)?, limit))
 }
 
 // The gauges that are wrong in all histories, and whether there is no history.
 pub fn names(observer: &Observer) -> Names
     ensures { NamesSay observer.now result }
 {
-    common_gauges(observer)
+    Names {
+        gauges: in_each(observer),
+        none: all_without(observer),
+    }
 }
 
 // What an observer shows.
@@ -102,12 +83,12 @@ pub fn answer(observer: &Observer, request: Request) -> Result<Answer, Refusal>
     ensures { ObservedSays observer.now request result }
 {
     match request {
-        Request::Basin(basin) => Ok(Answer::Span(basin_span(observer, basin)?)),
+        Request::Basin(basin) => basin_span(observer, basin).map(Answer::Span),
         Request::Difference(first, second) => {
-            Ok(Answer::Span(difference_span(observer, first, second)?))
+            difference_span(observer, first, second).map(Answer::Span)
         }
         Request::Names => Ok(Answer::Names(names(observer))),
-        Request::Alarm(basin, limit) => Ok(Answer::Alarm(alarm(observer, basin, limit)?)),
+        Request::Alarm(basin, limit) => alarm(observer, basin, limit).map(Answer::Alarm),
     }
 }
 

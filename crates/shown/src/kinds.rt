@@ -1,15 +1,16 @@
 // What is asked, and what is shown.
+use faults::FaultSet;
 
-// An end of what a level or a difference can be.
-#[derive(Clone, Copy, Debug)]
+// An end of what a level or a difference can be. No Option: an end has words of its own, a Display.
+#[derive(Clone, Copy, PartialEq, Eq, Debug)]
 pub enum End {
     At(i64),
     // as far as you like
     Open,
 }
 
-// What a level or a difference can be.
-#[derive(Clone, Copy, Debug)]
+// What a level or a difference can be. No Option: a span has words of its own, a Display.
+#[derive(Clone, Copy, PartialEq, Eq, Debug)]
 pub enum Span {
     // no levels are possible
     Nothing,
@@ -18,7 +19,7 @@ pub enum Span {
 }
 
 // Whether a level is above a limit.
-#[derive(Clone, Copy, Debug)]
+#[derive(Clone, Copy, PartialEq, Eq, Debug)]
 pub enum Alarm {
     // no possible one is
     Off,
@@ -28,10 +29,11 @@ pub enum Alarm {
     Sure,
 }
 
-// The gauges that are wrong in all histories, by their bits, and whether there is no history.
-#[derive(Clone, Copy, Debug)]
+// The gauges that are wrong in all histories, and whether there is no history: both are said in both cases, so that an enum
+// would hold the gauges twice.
+#[derive(Clone, Copy, PartialEq, Eq, Debug)]
 pub struct Names {
-    pub bits: u16,
+    pub gauges: FaultSet,
     pub none: bool,
 }
 
@@ -46,7 +48,7 @@ pub enum Request {
     Alarm(u32, i64),
 }
 
-#[derive(Clone, Copy, Debug)]
+#[derive(Clone, Copy, PartialEq, Eq, Debug)]
 pub enum Answer {
     Span(Span),
     Names(Names),

@@ -3,22 +3,16 @@
 ghost use Rattle.shown.specs.Law.{NoneSharper, OrderShowsSame, ReadingOnlySharpens};
 
 // Two observers that took the same readings in another order between two steps show the same.
-pub fn order_shows_same_stands() -> u8
+pub fn order_shows_same_stands()
     ensures { OrderShowsSame }
-{
-    0
-}
+{}
 
 // After a further reading no span is wider, and nothing that was sure is taken back.
-pub fn reading_only_sharpens_stands() -> u8
+pub fn reading_only_sharpens_stands()
     ensures { ReadingOnlySharpens }
-{
-    0
-}
+{}
 
 // No ends that hold in every history are sharper than those shown.
-pub fn none_sharper_stands() -> u8
+pub fn none_sharper_stands()
     ensures { NoneSharper }
-{
-    0
-}
+{}

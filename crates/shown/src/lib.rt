@@ -16,6 +16,7 @@ pub use laws::{none_sharper_stands, order_shows_same_stands, reading_only_sharpe
 #[cfg(test)]
 mod tests {
     use super::*;
+    use faults::FaultSet;
     use plant::{Event, Gauge, GaugeReading, Plant};
     use refusal::Failure;
     use std::alloc::Global;
@@ -28,6 +29,10 @@ mod tests {
         Event::Reading(GaugeReading { gauge, low, high })
     }
 
+    fn gauge(first: u8, second: u8) -> Gauge {
+        Gauge { first, second }
+    }
+
     // Basins with the same range and the same rates.
     fn plant(
         heap: Global,
@@ -37,44 +42,21 @@ mod tests {
         gauges: &[Gauge],
         wrong: u32,
     ) -> Result<Plant, Fail> {
-        let mut ranges = Vec::new(heap);
-        let mut rates = Vec::new(heap);
-        let mut places = Vec::new(heap);
-        for _ in 0..basins {
-            ranges.push(Range { least: 0, most })?;
-            rates.push(rate)?;
-        }
-        for gauge in gauges {
-            places.push(*gauge)?;
-        }
+        let ranges = vec![in heap; Range { least: 0, most }; basins as usize]?;
+        let rates = vec![in heap; rate; basins as usize]?;
+        let places = gauges.to_vec(heap)?;
         Ok(Plant::new(basins, wrong, ranges, rates, places)?)
     }
 
     // Two basins, 0 to 100, rise 3, fall 2; gauges at the first, at the second and at both; one may be wrong.
     fn two_basins(heap: Global) -> Result<Plant, Fail> {
-        let gauges = [
-            Gauge {
-                first: 1,
-                second: 0,
-            },
-            Gauge {
-                first: 2,
-                second: 0,
-            },
-            Gauge {
-                first: 1,
-                second: 2,
-            },
-        ];
+        let gauges = [gauge(1, 0), gauge(2, 0), gauge(1, 2)];
         plant(heap, 2, 100, Rate { rise: 3, fall: 2 }, &gauges, 1)
     }
 
-    // Both ends, or neither: no plant has open ones.
-    fn ends(answer: Answer) -> Option<(i64, i64)> {
-        match answer {
-            Answer::Span(Span::Ends(End::At(low), End::At(high))) => Some((low, high)),
-            _ => None,
-        }
+    // No plant has open ends.
+    fn ends(low: i64, high: i64) -> Answer {
+        Answer::Span(Span::Ends(End::At(low), End::At(high)))
     }
 
     fn check_span(
@@ -84,7 +66,7 @@ mod tests {
         low: i64,
         high: i64,
     ) -> Result<(), Fail> {
-        assert_eq!(rt; ends(answer(observer, request)?), Some((low, high)));
+        assert_eq!(rt; answer(observer, request)?, ends(low, high));
         Ok(())
     }
 
@@ -94,31 +76,25 @@ mod tests {
         bits: u16,
         none: bool,
     ) -> Result<(), Fail> {
-        match answer(observer, Request::Names)? {
-            Answer::Names(names) => {
-                assert_eq!(rt; names.bits, bits);
-                assert_eq!(rt; names.none, none);
-                Ok(())
-            }
-            _ => Err(Fail::new("no names")),
-        }
+        let gauges = FaultSet { bits };
+        assert_eq!(rt;
+            answer(observer, Request::Names)?,
+            Answer::Names(Names { gauges, none })
+        );
+        Ok(())
     }
 
-    // 0 off, 1 on, 2 sure.
     fn check_alarm(
         rt: &impl Abort,
         observer: &Observer,
         basin: u32,
         limit: i64,
-        wanted: u8,
+        wanted: Alarm,
     ) -> Result<(), Fail> {
-        let rings = match answer(observer, Request::Alarm(basin, limit))? {
-            Answer::Alarm(Alarm::Off) => 0,
-            Answer::Alarm(Alarm::On) => 1,
-            Answer::Alarm(Alarm::Sure) => 2,
-            _ => 3,
-        };
-        assert_eq!(rt; rings, wanted);
+        assert_eq!(rt;
+            answer(observer, Request::Alarm(basin, limit))?,
+            Answer::Alarm(wanted)
+        );
         Ok(())
     }
 
@@ -156,15 +132,10 @@ mod tests {
             Request::Basin(2),
             Request::Difference(1, 2),
         ] {
-            assert!(rt;
-                match answer(&observer, request)? {
-                    Answer::Span(Span::Nothing) => true,
-                    _ => false,
-                }
-            );
+            assert_eq!(rt; answer(&observer, request)?, Answer::Span(Span::Nothing));
         }
         check_names(&rt, &observer, 0b111, true)?;
-        check_alarm(&rt, &observer, 1, -1, 0)?;
+        check_alarm(&rt, &observer, 1, -1, Alarm::Off)?;
         observer.take(Event::Step)?;
         check_names(&rt, &observer, 0b111, true)
     }
@@ -173,24 +144,7 @@ mod tests {
     // and the one between both that the first is 20 above it, so that 90 is possible.
     #[test]
     fn frozen_gauges(rt: HostRuntime) -> Result<(), Fail> {
-        let gauges = [
-            Gauge {
-                first: 1,
-                second: 0,
-            },
-            Gauge {
-                first: 1,
-                second: 0,
-            },
-            Gauge {
-                first: 2,
-                second: 0,
-            },
-            Gauge {
-                first: 1,
-                second: 2,
-            },
-        ];
+        let gauges = [gauge(1, 0), gauge(1, 0), gauge(2, 0), gauge(1, 2)];
         let rate = Rate { rise: 10, fall: 10 };
         let mut observer = Observer::new(rt.alloc(), plant(rt.alloc(), 2, 100, rate, &gauges, 2)?)?;
         let events = [
@@ -202,18 +156,15 @@ mod tests {
         assert_eq!(rt; observer.take_all(&events), 4);
         check_span(&rt, &observer, Request::Basin(1), 50, 90)?;
         check_names(&rt, &observer, 0, false)?;
-        check_alarm(&rt, &observer, 1, 80, 1)?;
-        check_alarm(&rt, &observer, 1, 90, 0)
+        check_alarm(&rt, &observer, 1, 80, Alarm::On)?;
+        check_alarm(&rt, &observer, 1, 90, Alarm::Off)
     }
 
     // 0 to 40, 41, and 41 to 100 of one basin, with one wrong gauge: the first is wrong, though the middle of the last is the
     // farthest from that of all three.
     #[test]
     fn the_farthest_is_not_named(rt: HostRuntime) -> Result<(), Fail> {
-        let gauges = [Gauge {
-            first: 1,
-            second: 0,
-        }; 3];
+        let gauges = [gauge(1, 0); 3];
         let rate = Rate { rise: 0, fall: 0 };
         let mut observer = Observer::new(rt.alloc(), plant(rt.alloc(), 1, 100, rate, &gauges, 1)?)?;
         observer.take(reading(0, 0, 40))?;
@@ -227,29 +178,19 @@ mod tests {
     // A limit that is met is not passed.
     #[test]
     fn limits(rt: HostRuntime) -> Result<(), Fail> {
-        let gauges = [Gauge {
-            first: 1,
-            second: 0,
-        }];
+        let gauges = [gauge(1, 0)];
         let rate = Rate { rise: 1, fall: 1 };
         let mut observer = Observer::new(rt.alloc(), plant(rt.alloc(), 1, 100, rate, &gauges, 0)?)?;
         observer.take(reading(0, 40, 60))?;
-        check_alarm(&rt, &observer, 1, 60, 0)?;
-        check_alarm(&rt, &observer, 1, 59, 1)?;
-        check_alarm(&rt, &observer, 1, 40, 1)?;
-        check_alarm(&rt, &observer, 1, 39, 2)?;
-        check_alarm(&rt, &observer, 1, i64::MIN, 2)?;
-        check_alarm(&rt, &observer, 1, i64::MAX, 0)
+        check_alarm(&rt, &observer, 1, 60, Alarm::Off)?;
+        check_alarm(&rt, &observer, 1, 59, Alarm::On)?;
+        check_alarm(&rt, &observer, 1, 40, Alarm::On)?;
+        check_alarm(&rt, &observer, 1, 39, Alarm::Sure)?;
+        check_alarm(&rt, &observer, 1, i64::MIN, Alarm::Sure)?;
+        check_alarm(&rt, &observer, 1, i64::MAX, Alarm::Off)
     }
 
-    // The number and the place, if it was refused.
-    fn refused(res: Result<Answer, Failure>) -> Option<(u8, u64)> {
-        match res {
-            Err(Failure::Refused(refusal)) => Some((refusal.number(), refusal.place())),
-            _ => None,
-        }
-    }
-
+    // By its number and place.
     fn check_asked(
         rt: &impl Abort,
         heap: Global,
@@ -258,10 +199,10 @@ mod tests {
         by: (u8, u64),
     ) -> Result<(), Fail> {
         let plant = two_basins(heap)?;
-        assert_eq!(rt;
-            refused(answer_after(heap, plant, events, request)),
-            Some(by)
-        );
+        let Err(Failure::Refused(refusal)) = answer_after(heap, plant, events, request) else {
+            return Err(Fail::new("not refused"));
+        };
+        assert_eq!(rt; (refusal.number(), refusal.place()), by);
         Ok(())
     }
 
@@ -293,7 +234,7 @@ mod tests {
         check_asked(&rt, heap, &events[0..2], Request::Basin(0), (9, 0))?;
         check_asked(&rt, heap, &events[1..2], Request::Basin(0), (10, 0))?;
         let answer = answer_after(heap, two_basins(heap)?, &events[1..2], Request::Basin(1))?;
-        assert_eq!(rt; ends(answer), Some((0, 103)));
+        assert_eq!(rt; answer, ends(0, 103));
         Ok(())
     }
 }

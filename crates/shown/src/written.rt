@@ -1,6 +1,6 @@
 // What is shown, in the words of the text format.
 ghost use Rattle.std.specs.Prelude.{Some};
-ghost use Rattle.shown.specs.Written.{written_alarm, written_end, written_span};
+ghost use Rattle.shown.specs.Written.{written_alarm, written_end, written_names, written_span};
 
 use crate::kinds::{Alarm, End, Names, Span};
 use std::fmt;
@@ -41,19 +41,16 @@ impl fmt::Display for Alarm {
 
 // The gauges, parted by blanks, or `none`.
 impl fmt::Display for Names {
+    ghost output = { λ n. Some (written_names n) };
+
     fn fmt<W: fmt::Write>(&self, f: &mut fmt::Formatter<W>) -> fmt::Result {
-        let bits = self.bits;
-        if bits == 0 {
+        let Some(first) = (0..u16::BITS).find(|gauge| self.gauges.contains(*gauge)) else {
             return write!(f, "none");
-        }
-        let mut first = true;
-        for gauge in 0..u16::BITS {
-            if bits >> gauge & 1 == 1 {
-                if !first {
-                    write!(f, " ")?;
-                }
-                write!(f, "{gauge}")?;
-                first = false;
+        };
+        write!(f, "{first}")?;
+        for gauge in first + 1..u16::BITS {
+            if self.gauges.contains(gauge) {
+                write!(f, " {gauge}")?;
             }
         }
         Ok(())

@@ -6,17 +6,18 @@ use Rattle.std.specs.Str.{all_ascii_digits, bytes_eq}
 use Rattle.std.proofs.lemmas.Fmt.{digits_decimal, digits_value-decimal, decimal_nonempty}
 use Rattle.std.proofs.ByRecursion.{All-append, All-get_or, All-weaker}
 use Rattle.std.proofs.lemmas.Bool.Decides.{nat_tests}
+use Rattle.text.specs.declared.entry.Format.{Format}
 use Rattle.text.specs.declared.entry.Entry.{Entry}
-use Rattle.text.specs.declared.entry.Entry.TheVariants.{Basins, Gauges, Wrong, Range, Rate, Gauge, Step, Read, Show}
+use Rattle.text.specs.declared.entry.Entry.TheVariants.{Basins, Gauges, Wrong, Range, Rate, Gauge, Step, Read, Show, Alarm}
 use Rattle.text.specs.declared.error.Field.{Field}
 use Rattle.text.specs.declared.error.LineError.{LineError}
 use Rattle.text.specs.Faults as faults
 use Rattle.text.specs.Lines.{Says, Unsaid, ByWords, Spells, NoWords, Reading, Parses}
 use Rattle.text.specs.Numbers.{digits, numeral, read_on, value, Fits, Number, Numbers}
-use Rattle.text.specs.Spelling.{name, numbers, fields, spaced, written, Fit}
+use Rattle.text.specs.Spelling.{Has, name, numbers, fields, spaced, written, Fit}
 use Rattle.text.specs.Words.{letter, split, chopped, words}
 use Rattle.text.proofs.Splits.{Passes, NoLetter, word_first, chop_same}
-use Rattle.text.proofs.Values.{own, never}
+use Rattle.text.proofs.Values.{own}
 
 -- the entry of a name and its numbers
 named : List (List ℕ × Entry) → List ℕ → Option Entry
@@ -26,7 +27,7 @@ named (k ∷ ks) w = cond (bytes_eq w k.0) (Some k.1) (named ks w)
 entry_of : List ℕ → List ℤ → Option Entry
 entry_of w [] = named ((codes "step", Step) ∷ (codes "show", Show) ∷ []) w
 entry_of w (a ∷ []) = named ((codes "basins", Basins a) ∷ (codes "gauges", Gauges a) ∷ (codes "wrong", Wrong a) ∷ []) w
-entry_of w (a ∷ b ∷ []) = None
+entry_of w (a ∷ b ∷ []) = named ((codes "alarm", Alarm a b) ∷ []) w
 entry_of w (a ∷ b ∷ c ∷ []) =
     named ((codes "range", Range a b c) ∷ (codes "rate", Rate a b c) ∷ (codes "gauge", Gauge a b c) ∷
     (codes "read", Read a b c) ∷ []) w
@@ -43,12 +44,14 @@ entry_back (Gauge g a b) = refl
 entry_back Step = refl
 entry_back (Read g l h) = refl
 entry_back Show = refl
+entry_back (Alarm b l) = refl
 
 -- how many numbers an entry of a name has
 count : List ℕ → ℕ
 count w =
     cond (bytes_eq w (codes "step")) 0 (cond (bytes_eq w (codes "show")) 0 (cond (bytes_eq w (codes "basins")) 1
-    (cond (bytes_eq w (codes "gauges")) 1 (cond (bytes_eq w (codes "wrong")) 1 3))))
+    (cond (bytes_eq w (codes "gauges")) 1 (cond (bytes_eq w (codes "wrong")) 1
+    (cond (bytes_eq w (codes "alarm")) 2 3)))))
 
 counted : (e : Entry) → (length (fields e) ≡ count (name e)) × (length (numbers e) ≡ count (name e))
 unfolding count
@@ -61,6 +64,7 @@ counted (Gauge g a b) = (refl, refl)
 counted Step = (refl, refl)
 counted (Read g l h) = (refl, refl)
 counted Show = (refl, refl)
+counted (Alarm b l) = (refl, refl)
 
 numbers_same : (ws : List (List ℕ)) (ys zs : List ℤ) → Numbers ws ys → Numbers ws zs → ys ≡ zs
 numbers_same [] [] [] h k = refl
@@ -70,10 +74,10 @@ numbers_same (w ∷ ws) [] zs h k = absurd h
 numbers_same (w ∷ ws) (y ∷ ys) [] h k = absurd k
 numbers_same (w ∷ ws) (y ∷ ys) (z ∷ zs) h k = λ i. (sym h.0.valued ∙ k.0.valued) i ∷ numbers_same ws ys zs h.1 k.1 i
 
-says_same : (w : List ℕ) (ws : List (List ℕ)) (d e : Entry) → Says w ws d → Says w ws e → d ≡ e
-says_same w ws d e h k =
-    let n : name d ≡ name e = h.0 ∙ sym k.0 in
-    let m = numbers_same ws (numbers d) (numbers e) h.1 k.1 in
+says_same : (format : Format) (w : List ℕ) (ws : List (List ℕ)) (d e : Entry) → Says format w ws d → Says format w ws e → d ≡ e
+says_same format w ws d e h k =
+    let n : name d ≡ name e = h.1 ∙ sym k.1 in
+    let m = numbers_same ws (numbers d) (numbers e) h.2 k.2 in
     let p : Some d ≡ Some e = sym (entry_back d) ∙ (λ i. entry_of (n i) (m i)) ∙ entry_back e in
     cc
 
@@ -86,37 +90,40 @@ not_both last [] (w ∷ ws) (z ∷ zs) x l h k = omega arith
 not_both last (f ∷ fs) [] [] x l h k = omega arith
 not_both last (f ∷ fs) [] (z ∷ zs) x l h k = k
 not_both last (f ∷ fs) (w ∷ ws) [] x l h k = k
-not_both last (f ∷ fs) (w ∷ ws) (z ∷ zs) x l (inl (inl h)) k = never (sym h.0 ∙ k.0.spelled)
+not_both last (f ∷ fs) (w ∷ ws) (z ∷ zs) x l (inl (inl h)) k = absurd (cc (h.0, k.0.spelled))
 not_both last (f ∷ fs) (w ∷ ws) (z ∷ zs) x l (inl (inr h)) k = h.1 (subst Fits (sym k.0.valued) k.0.fits)
 not_both last (f ∷ fs) (w ∷ ws) (z ∷ zs) x l (inr h) k = not_both w fs ws zs x (omega arith) h.1 k.1
 
-said_or_not : (w : List ℕ) (ws : List (List ℕ)) (e : Entry) (x : LineError) → Says w ws e → Unsaid w ws x → ⊥
-said_or_not w ws e x h (inl u) = u.0 e h.0
-said_or_not w ws e x h (inr (d, n, u)) =
-    not_both w (fields d) ws (numbers e) x ((counted d).0 ∙ ap count (n ∙ sym h.0) ∙ sym (counted e).1) u h.1
+said_or_not : (format : Format) (w : List ℕ) (ws : List (List ℕ)) (e : Entry) (x : LineError)
+    → Says format w ws e → Unsaid format w ws x → ⊥
+said_or_not format w ws e x h (inl u) = u.0 e h.0 h.1
+said_or_not format w ws e x h (inr (d, has, n, u)) =
+    not_both w (fields d) ws (numbers e) x ((counted d).0 ∙ ap count (n ∙ sym h.1) ∙ sym (counted e).1) u h.2
 
-module _ (e : Entry) where
-  entries_same : (ws : List (List ℕ)) (d : Entry) → ByWords (λ w vs. Says w vs d) ws
-      → ByWords (λ w vs. Says w vs e) ws → d ≡ e
+module _ (format : Format) (e : Entry) where
+  entries_same : (ws : List (List ℕ)) (d : Entry) → ByWords (λ w vs. Says format w vs d) ws
+      → ByWords (λ w vs. Says format w vs e) ws → d ≡ e
   entries_same [] d h k = absurd h
-  entries_same (w ∷ ws) d h k = says_same w ws d e h k
+  entries_same (w ∷ ws) d h k = says_same format w ws d e h k
 
-  no_fault : (ws : List (List ℕ)) (x : LineError) → ByWords (λ w vs. Unsaid w vs x) ws
-      → ByWords (λ w vs. Says w vs e) ws → ⊥
+  no_fault : (ws : List (List ℕ)) (x : LineError) → ByWords (λ w vs. Unsaid format w vs x) ws
+      → ByWords (λ w vs. Says format w vs e) ws → ⊥
   no_fault [] x h k = h
-  no_fault (w ∷ ws) x h k = said_or_not w ws e x k h
+  no_fault (w ∷ ws) x h k = said_or_not format w ws e x k h
 
-  entry_read : (line : List ℕ) (r : Result (Option Entry) LineError) → Reading line r → Spells line e → r ≡ Ok (Some e)
-  entry_read line (Ok None) h k = absurd (subst (ByWords (λ w vs. Says w vs e)) h.1 k.1)
+  entry_read : (line : List ℕ) (r : Result (Option Entry) LineError) → Reading format line r → Spells format line e
+      → r ≡ Ok (Some e)
+  entry_read line (Ok None) h k = absurd (subst (ByWords (λ w vs. Says format w vs e)) h.1 k.1)
   entry_read line (Ok (Some d)) h k = ap (λ y. Ok (Some y)) (entries_same (words line) d h.1 k.1)
   entry_read line (Err x) (inl h) k = absurd (k.0 h.0)
   entry_read line (Err x) (inr h) k = absurd (no_fault (words line) x h.1 k.1)
 
-nothing_read : (line : List ℕ) (r : Result (Option Entry) LineError) → Reading line r → NoWords line → r ≡ Ok None
-nothing_read line (Ok None) h k = refl
-nothing_read line (Ok (Some d)) h k = absurd (subst (ByWords (λ w vs. Says w vs d)) k.1 h.1)
-nothing_read line (Err x) (inl h) k = absurd (k.0 h.0)
-nothing_read line (Err x) (inr h) k = absurd (subst (ByWords (λ w vs. Unsaid w vs x)) k.1 h.1)
+nothing_read : (format : Format) (line : List ℕ) (r : Result (Option Entry) LineError) → Reading format line r → NoWords line
+    → r ≡ Ok None
+nothing_read format line (Ok None) h k = refl
+nothing_read format line (Ok (Some d)) h k = absurd (subst (ByWords (λ w vs. Says format w vs d)) k.1 h.1)
+nothing_read format line (Err x) (inl h) k = absurd (k.0 h.0)
+nothing_read format line (Err x) (inr h) k = absurd (subst (ByWords (λ w vs. Unsaid format w vs x)) k.1 h.1)
 
 -- the bytes of what is written: letters of words, from 32 on
 abbrev Mark : ℕ → Type 0
@@ -205,6 +212,7 @@ name_marks (Gauge g a b) = (marks (codes "gauge") refl, lit< tt)
 name_marks Step = (marks (codes "step") refl, lit< tt)
 name_marks (Read g l h) = (marks (codes "read") refl, lit< tt)
 name_marks Show = (marks (codes "show") refl, lit< tt)
+name_marks (Alarm b l) = (marks (codes "alarm") refl, lit< tt)
 
 module _ (e : Entry) (fit : Fit e) where
   written_plain : AllByRecursion (λ c. 32 ≤ c) (written e)
@@ -219,16 +227,16 @@ module _ (e : Entry) (fit : Fit e) where
       ∙ word_first (name e) (spaced (numbers e)) (letters (name e) (name_marks e).0) (name_marks e).1 (spaced_next (numbers e))
       ∙ ap (λ ws. name e ∷ ws) (spaced_words (numbers e) fit)
 
-  written_spells : Spells (written e) e
-  written_spells = (
+  written_spells : (format : Format) → Has format e → Spells format (written e) e
+  written_spells format has = (
     λ nul. let low = All-get_or (λ c. 32 ≤ c) (written e) nul.0 0 nul.1 written_plain in omega (arith, nul.2),
-    subst (ByWords (λ w ws. Says w ws e)) (sym written_words) (refl, numbers_back (numbers e) fit),
+    subst (ByWords (λ w ws. Says format w ws e)) (sym written_words) (has, refl, numbers_back (numbers e) fit),
   )
 
-pub parses : (line : List ℕ) (r : Result (Option Entry) LineError) → Reading line r → Parses line r
-parses line r h = record {
+pub parses : (format : Format) (line : List ℕ) (r : Result (Option Entry) LineError) → Reading format line r → Parses format line r
+parses format line r h = record {
   answer = h;
-  entry = λ e k. entry_read e line r h k;
-  nothing = λ k. nothing_read line r h k;
-  back = λ e f p. entry_read e line r h (subst (λ l. Spells l e) (sym p) (written_spells e f));
+  entry = λ e k. entry_read format e line r h k;
+  nothing = λ k. nothing_read format line r h k;
+  back = λ e has fit p. entry_read format e line r h (subst (λ l. Spells format l e) (sym p) (written_spells e fit format has));
 }

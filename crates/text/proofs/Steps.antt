@@ -1,103 +1,101 @@
 -- One number after another. Assumes nothing.
-use Rattle.std.proofs.Common.{◌≡◌, ℕ, List, [], ◌∷◌, ℤ, pos, IsErrAnd, Ok, Err, Result, sym, refl, ap, ◌∙◌, subst, inr, w64, to_z, of_z, Bor, MatchResult}
+use Rattle.std.proofs.Common.{◌≡◌, ℕ, true, false, Some, None, Option, is_some, MatchOption, List, [], ◌∷◌, ◌++◌, ℤ, Ok, Err, Result, IsErrAnd, IsOkAnd, sym, ◌∙◌, subst, append_assoc, inr, suc, ◌+◌, ◌<◌, length, take, drop, set, get_or, add-one, drop-cons, w64, to_z, of_z, Bor, MatchResult, arith, pos, zero}
+use Rattle.std.proofs.Math.Seq.{take-suc-set}
+use Rattle.std.proofs.lemmas.List.{drop_all}
 use Rattle.std.proofs.lemmas.Int.{to_z-of_z}
+use Rattle.text.specs.declared.entry.Format.{Format}
 use Rattle.text.specs.declared.entry.Entry.{Entry}
 use Rattle.text.specs.declared.error.Field.{Field}
 use Rattle.text.specs.declared.error.LineError.{LineError}
-use Rattle.text.specs.declared.kinds.Count.{Count}
-use Rattle.text.specs.declared.kinds.Count.TheVariants.{Basins, Gauges, Wrong}
-use Rattle.text.specs.declared.kinds.Triple.{Triple}
-use Rattle.text.specs.declared.kinds.Triple.TheVariants.{Range, Rate, Gauge, Read}
 use Rattle.text.specs.declared.words.Words.{Words}
 use Rattle.text.specs.Numbers.{Number, Numbers}
 use Rattle.text.specs.Faults as faults
-use Rattle.text.specs.Kinds.{counted, count_field, tripled, triple_fields}
-use Rattle.text.specs.Lines.{Names, Refuses, ReadAs, ByWords}
+use Rattle.text.specs.Lines.{HasNul, Says, Unsaid, Names, Refuses, ByWords, Reading}
 use Rattle.text.specs.Reader.{left, last_of, Next, Takes, Holds, Fails}
-use Rattle.text.specs.Spelling.{name, numbers, fields}
+use Rattle.text.specs.Spelling.{Has, name, numbers, fields}
 use Rattle.text.specs.Words.{words}
 
--- a number that was taken comes before those that follow
-pub holds_more : (s t : Words) (z : ℤ) (zs : List ℤ) → Takes s t z → Holds t zs → Holds s (to_z w64 (of_z w64 z) ∷ zs)
-holds_more s t z zs h k =
-    subst (λ ws. Numbers ws (to_z w64 (of_z w64 z) ∷ zs)) (sym h.0)
-    (subst (Number (last_of t)) (sym (to_z-of_z w64 z (record { sfits = h.1.fits }))) h.1, k)
+-- from s to t the numbers zs were read, of the fields that were wanted `rest` are still to come
+pub record ReadUpTo (s t : Words) (zs : List ℤ) (wanted rest : List Field) : Type 0 where
+  pub holds : (ys : List ℤ) → Holds t ys → Holds s (zs ++ ys)
+  pub fails : (x : LineError) → Fails t rest x → Fails s wanted x
 
-pub fails_later : (s t : Words) (z : ℤ) (f : Field) (fs : List Field) (x : LineError) → Takes s t z
-    → Fails t fs x → Fails s (f ∷ fs) x
-fails_later s t z f fs x h k = subst (λ ws. faults.Wrong (last_of s) (f ∷ fs) ws x) (sym h.0) (inr ((z, h.1), k))
+read_more : (s t u : Words) (zs : List ℤ) (wanted rest : List Field) (f : Field) (z : ℤ)
+    → ReadUpTo s t zs wanted (f ∷ rest) → Takes t u z → ReadUpTo s u (zs ++ (z ∷ [])) wanted rest
+read_more s t u zs wanted rest f z h taken = record {
+  holds = λ ys k. rw append_assoc (h.holds (z ∷ ys) (subst (λ ws. Numbers ws (z ∷ ys)) (sym taken.0) (taken.1, k)));
+  fails = λ x k. h.fails x (subst (λ ws. faults.Wrong (last_of t) (f ∷ rest) ws x) (sym taken.0) (inr ((z, taken.1), k)));
+}
 
--- the entry of a kind: its name, its numbers and its fields
-count_name : (k : Count) (m n : ℤ) → name (counted k m) ≡ name (counted k n)
-count_name Basins m n = refl
-count_name Gauges m n = refl
-count_name Wrong m n = refl
+pub read_next : (s t u : Words) (zs : List ℤ) (wanted : List Field) (i : ℕ) (f : Field) (z : ℤ)
+    → i < length zs → i < length wanted
+    → ReadUpTo s t (take i zs) wanted (drop i wanted) → Takes t u z
+    → ReadUpTo s u (take (i + 1) (set zs i (to_z w64 (of_z w64 z)))) wanted (drop (i + 1) wanted)
+read_next s t u zs wanted i f z l k h taken =
+    let kept : to_z w64 (of_z w64 z) ≡ z = to_z-of_z w64 z (record { sfits = taken.1.fits }) in
+    let before = subst (ReadUpTo s t (take i zs) wanted) (drop-cons wanted i f k) h in
+    rw (kept, add-one, take-suc-set zs i z l)
+    (read_more s t u (take i zs) wanted (drop (suc i) wanted) (get_or wanted i f) z before taken)
 
-count_numbers : (k : Count) (n : ℤ) → numbers (counted k n) ≡ n ∷ []
-count_numbers Basins n = refl
-count_numbers Gauges n = refl
-count_numbers Wrong n = refl
+-- the numbers that were read, taken one by one out of their array
+abbrev pub listed : ℕ → ℕ → List ℤ → List ℤ
+listed zero i zs = []
+listed (suc n) i zs = to_z w64 (of_z w64 (get_or zs i (pos 0))) ∷ listed n (suc i) zs
 
-fields_of_count : (k : Count) (n : ℤ) → fields (counted k n) ≡ count_field k ∷ []
-fields_of_count Basins n = refl
-fields_of_count Gauges n = refl
-fields_of_count Wrong n = refl
+numbers_listed : (ws : List (List ℕ)) (n i : ℕ) (zs : List ℤ) → length zs ≡ i + n
+    → Numbers ws (drop i zs) → Numbers ws (listed n i zs)
+numbers_listed ws zero i zs l h = subst (Numbers ws) (drop_all i zs (omega arith)) h
+numbers_listed [] (suc n) i zs l h = absurd (subst (Numbers []) (drop-cons zs i (pos 0) (omega arith)) h)
+numbers_listed (w ∷ ws) (suc n) i zs l h =
+    let k = subst (Numbers (w ∷ ws)) (drop-cons zs i (pos 0) (omega arith)) h in (
+      subst (Number w) (sym (to_z-of_z w64 (get_or zs i (pos 0)) (record { sfits = k.0.fits }))) k.0,
+      numbers_listed ws n (suc i) zs (omega arith) k.1,
+    )
 
-abbrev listed : Field × Field × Field → List Field
-listed fs = fs.0 ∷ fs.1 ∷ fs.2 ∷ []
+pub holds_listed : (s : Words) (n : ℕ) (zs : List ℤ) → length zs ≡ n → Holds s zs → Holds s (listed n 0 zs)
+holds_listed s n zs l h = numbers_listed (left s) n 0 zs (omega arith) h
 
-triple_name : (k : Triple) (a b c x y z : ℤ) → name (tripled k a b c) ≡ name (tripled k x y z)
-triple_name Range a b c x y z = refl
-triple_name Rate a b c x y z = refl
-triple_name Gauge a b c x y z = refl
-triple_name Read a b c x y z = refl
+-- the name of d has been read, and what follows is not its numbers
+module _ (format : Format) (s : Words) (d : Entry) (named : last_of s ≡ name d) (has : Has format d) where
+  pub fails_as : (r : Result Entry LineError) (x : LineError) → IsErrAnd r (λ y. y ≡ x) → Fails s (fields d) x
+      → MatchResult r (Names format s) (Refuses format s)
+  fails_as (Ok e) x h k = absurd h
+  fails_as (Err y) x h k = inr (d, has, sym named, subst (Fails s (fields d)) (sym h) k)
 
-triple_numbers : (k : Triple) (a b c : ℤ) → numbers (tripled k a b c) ≡ a ∷ b ∷ c ∷ []
-triple_numbers Range a b c = refl
-triple_numbers Rate a b c = refl
-triple_numbers Gauge a b c = refl
-triple_numbers Read a b c = refl
-
-fields_of_triple : (k : Triple) (a b c : ℤ) → fields (tripled k a b c) ≡ listed (triple_fields k)
-fields_of_triple Range a b c = refl
-fields_of_triple Rate a b c = refl
-fields_of_triple Gauge a b c = refl
-fields_of_triple Read a b c = refl
-
--- an error is handed on as it is
-read_fails : (r : Result Entry LineError) (s : Words) (d : Entry) (fs : List Field) (x : LineError)
-    → IsErrAnd r (λ y. y ≡ x) → fields d ≡ fs → Fails s fs x → ReadAs s d r
-read_fails (Ok v) s d fs x h e k = absurd h
-read_fails (Err y) s d fs x h e k = subst (Fails s (fields d)) (sym h) (subst (λ gs. Fails s gs x) (sym e) k)
-
-module _ (s : Words) (k : Count) where
-  pub count_fails : (r : Result Entry LineError) (f : Field) (x : LineError) → f ≡ count_field k
-      → IsErrAnd r (λ y. y ≡ x) → Fails s (f ∷ []) x
-      → ReadAs s (counted k (pos 0)) r
-  count_fails r f x e h w = read_fails r s _ (f ∷ []) x h (fields_of_count k (pos 0) ∙ ap (λ g. g ∷ []) (sym e)) w
-
-  pub count_holds : (e : Entry) (n : ℤ) → e ≡ counted k n → Holds s (n ∷ []) → ReadAs s (counted k (pos 0)) (Ok e)
-  count_holds e n p h =
-      (ap name p ∙ count_name k n (pos 0), subst (Holds s) (sym (ap numbers p ∙ count_numbers k n)) h)
-
-module _ (s : Words) (k : Triple) where
-  pub triple_fails : (r : Result Entry LineError) (fs : Field × Field × Field) (x : LineError)
-      → fs ≡ triple_fields k → IsErrAnd r (λ y. y ≡ x) → Fails s (listed fs) x
-      → ReadAs s (tripled k (pos 0) (pos 0) (pos 0)) r
-  triple_fails r fs x e h w = read_fails r s _ (listed fs) x h (fields_of_triple k (pos 0) (pos 0) (pos 0) ∙ ap listed (sym e)) w
-
-  pub triple_holds : (e : Entry) (a b c : ℤ) → e ≡ tripled k a b c → Holds s (a ∷ b ∷ c ∷ [])
-      → ReadAs s (tripled k (pos 0) (pos 0) (pos 0)) (Ok e)
-  triple_holds e a b c p h =
-      (ap name p ∙ triple_name k a b c (pos 0) (pos 0) (pos 0), subst (Holds s) (sym (ap numbers p ∙ triple_numbers k a b c)) h)
-
--- the name has been read, and then the numbers of an entry of that name
-pub named_as : (s : Words) (d : Entry) (r : Result Entry LineError) → last_of s ≡ name d → ReadAs s d r
-    → MatchResult r (Names s) (Refuses s)
-named_as s d (Ok e) p h = (h.0 ∙ sym p, h.1)
-named_as s d (Err x) p h = inr (d, sym p, h)
+  -- and r is made of what follows
+  pub made_as : {N : Type 0} (n : Result N LineError) (r : Result Entry LineError) (zs : N → List ℤ) {Made : N → Entry → Type 0}
+      → MatchResult n (λ x. Holds s (zs x)) (Fails s (fields d))
+      → MatchResult n (λ x. IsOkAnd r (Made x)) (λ x. r ≡ Err x)
+      → ((x : N) (e : Entry) → Made x e → Has format e × (name e ≡ name d) × (numbers e ≡ zs x))
+      → MatchResult r (Names format s) (Refuses format s)
+  made_as (Ok x) (Ok e) zs h made same =
+      let m = same x e made in
+      (m.0, m.1 ∙ sym named, subst (Holds s) (sym m.2) h)
+  made_as (Ok x) (Err y) zs h made same = absurd made
+  made_as (Err x) r zs h made same =
+      subst (λ q. MatchResult q (Names format s) (Refuses format s)) (sym made) (inr (d, has, sym named, h))
 
 -- what holds of the first word and of those after it
-pub by_first : (P : List ℕ → List (List ℕ) → Type 0) (line : List ℕ) (s t : Words) (w : Bor (List ℕ))
+by_first : (P : List ℕ → List (List ℕ) → Type 0) (line : List ℕ) (s t : Words) (w : Bor (List ℕ))
     → left s ≡ words line → Next s t w → P (last_of t) (left t) → ByWords P (words line)
 by_first P line s t w e n h = subst (ByWords P) (sym n.0 ∙ e) (subst (λ v. P v (left t)) n.1 h)
+
+-- the line's words from s on, its first one read up to t
+module _ (format : Format) (line : List ℕ) (s t : Words) (plain : HasNul line → ⊥) (begun : left s ≡ words line) where
+  pub nothing : (first : Option (Bor (List ℕ))) → MatchOption first (left s ≡ []) (Next s t) → is_some first ≡ false
+      → Reading format line (Ok None)
+  nothing None h e = (plain, sym begun ∙ h)
+  nothing (Some w) h e = cc
+
+  pub read : (first : Option (Bor (List ℕ))) (r : Result Entry LineError) (q : Result (Option Entry) LineError)
+      → MatchOption first (left s ≡ []) (Next s t) → is_some first ≡ true
+      → MatchResult r (Names format t) (Refuses format t)
+      → MatchResult r (λ e. IsOkAnd q (λ o. o ≡ Some e)) (λ x. q ≡ Err x) → Reading format line q
+  read None r q h e k made = cc
+  read (Some w) (Ok d) (Ok o) h e k made =
+      subst (λ y. Reading format line (Ok y)) (sym made)
+      (plain, by_first (λ v vs. Says format v vs d) line s t w begun h k)
+  read (Some w) (Ok d) (Err x) h e k made = absurd made
+  read (Some w) (Err x) q h e k made =
+      subst (Reading format line) (sym made)
+      (inr (plain, by_first (λ v vs. Unsaid format v vs x) line s t w begun h k))

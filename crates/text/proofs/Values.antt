@@ -1,32 +1,31 @@
 -- Words as numbers. Assumes nothing.
-use Rattle.std.proofs.Common.{◌≡◌, ℕ, zero, suc, ◌+◌, ◌^◌, ◌<◌, ◌≤◌, Bool, true, false, cond, ◌&&◌, eqb, List, [], ◌∷◌, length, get_or, drop, ℤ, pos, neg_ℤ, Some, None, Ok, Err, Option, Result, unwrap_or, sym, refl, ap, ◌∙◌, subst, add-one, arith, drop-cons, w64, to_z, of_z, Bor, rules, MatchOption}
+use Rattle.std.proofs.Common.{◌≡◌, ℕ, zero, suc, ◌^◌, ◌<◌, ◌≤◌, Bool, true, false, cond, ◌&&◌, eqb, List, [], ◌∷◌, length, ℤ, pos, neg_ℤ, Some, None, Ok, Err, Option, Result, unwrap_or, sym, refl, ap, ◌∙◌, subst, arith, w64, Bor, rules, MatchOption, MatchResult, IsErrAnd, inr}
 use Rattle.std.specs.Result.{OkIff}
 use Rattle.std.specs.Str.Parse.{ParsesSigned}
 use Rattle.std.specs.Char.{is_ascii_digit}
+use Rattle.std.specs.List.{list_all}
 use Rattle.std.specs.Str.{all_ascii_digits}
 use Rattle.std.proofs.lemmas.Str.Parse.{IsNumeralModel, numerals_by_fold, parse_signed_minus, parse_signed_digits}
-use Rattle.std.proofs.lemmas.Result.{OkIff-at_ok, OkIff-at_err}
-use Rattle.std.proofs.lemmas.Int.{to_z-of_z}
 use Rattle.std.proofs.lemmas.Bool.Decides.{nat_tests}
+use Rattle.text.specs.declared.error.Field.{Field}
+use Rattle.text.specs.declared.error.LineError.{LineError}
+use Rattle.text.specs.Faults.{told, too_large, NoNumber}
 use Rattle.text.specs.Numbers.{digits, numeral, read_on, value, Fits, Number}
 
 pub own : IsNumeralModel (λ ds. all_ascii_digits ds ≡ true) (read_on 0)
 own = numerals_by_fold _ (search rules) read_on (search rules)
 
-pub never : {A : Type 0} → false ≡ true → A
-never e = absurd (let z : ◌≡◌ {A = ℕ} 0 1 = cc in omega arith)
-
--- one byte more is looked at
-pub digits_next : (bs : List ℕ) (i : ℕ) (b : Bool) → i < length bs → b ≡ is_ascii_digit (get_or bs i 0)
-    → all_ascii_digits (drop i bs) ≡ (b && all_ascii_digits (drop (i + 1) bs))
-digits_next bs i b l e = rw (add-one, drop-cons bs i 0, e)
+-- as the code asks for them
+pub digits_all : (ds : List ℕ) → list_all is_ascii_digit ds ≡ all_ascii_digits ds
+digits_all [] = refl
+digits_all (c ∷ cs) = ap (λ b. is_ascii_digit c && b) (digits_all cs)
 
 pub digits_some : (ds : List ℕ) → 0 < length ds → digits ds ≡ all_ascii_digits ds
 digits_some [] l = absurd (omega arith)
 digits_some (c ∷ cs) l = refl
 
 digits_parts : (ds : List ℕ) → digits ds ≡ true → (all_ascii_digits ds ≡ true) × (0 < length ds)
-digits_parts [] h = never h
+digits_parts [] h = cc
 digits_parts (c ∷ cs) h = (h, omega arith)
 
 pub numeral_by : (bs : List ℕ) (r : Option (Bor (List ℕ))) (whole : Bor (List ℕ))
@@ -55,7 +54,7 @@ fits_minus (suc n) h = omega arith
 
 pub parsed : {E : Type 0} (w : List ℕ) (r : Result ℤ E) → ParsesSigned w64 10 w r → numeral w ≡ true
     → OkIff r (Fits (value w)) (value w)
-parsed [] r h n = never n
+parsed [] r h n = cc
 parsed {E} (c ∷ cs) r h n = by (eqb c 45) refl
   where
     by : (b : Bool) → eqb c 45 ≡ b → OkIff r (Fits (value (c ∷ cs))) (value (c ∷ cs))
@@ -67,14 +66,16 @@ parsed {E} (c ∷ cs) r h n = by (eqb c 45) refl
         let d : all_ascii_digits (c ∷ cs) ≡ true = rw p at n in
         rw p (converted_like r (parse_signed_digits own w64 (c ∷ cs) r h d) (λ k. k.1) (λ k. (omega arith, k)) refl)
 
-pub number_taken : {E : Type 0} (w : List ℕ) (r : Result ℤ E) (x : ℤ) → ParsesSigned w64 10 w r
-    → numeral w ≡ true → r ≡ Ok x → Number w (to_z w64 (of_z w64 x))
-number_taken w r x h n e =
-    let k = OkIff-at_ok r _ _ x (parsed w r h n) e in
-    let back : to_z w64 (of_z w64 x) ≡ value w = ap (λ y. to_z w64 (of_z w64 y)) k.1
-    ∙ to_z-of_z w64 (value w) (record { sfits = k.0 }) in
-    record { spelled = n; valued = sym back; fits = subst Fits (sym back) k.0 }
-
-pub number_refused : {E : Type 0} (w : List ℕ) (r : Result ℤ E) (d : E) → ParsesSigned w64 10 w r
-    → numeral w ≡ true → r ≡ Err d → Fits (value w) → ⊥
-number_refused w r d h n e = OkIff-at_err r _ _ d (parsed w r h n) e
+-- the number of a numeral that an i64 holds, and else the error that r has for it
+pub number_read : {E : Type 0} (w : List ℕ) (f : Field) (p : Result ℤ E) (r : Result ℤ LineError) {Made : E → LineError → Type 0}
+    → ParsesSigned w64 10 w p → numeral w ≡ true
+    → MatchResult p (λ z. r ≡ Ok z) (λ e. IsErrAnd r (Made e))
+    → ((e : E) (x : LineError) → Made e x → told x ≡ too_large f w)
+    → MatchResult r (Number w) (NoNumber f w)
+number_read {E} w f (Ok z) r h n made large =
+    let k = parsed {E = E} w (Ok z) h n in
+    subst (λ q. MatchResult q (Number w) (NoNumber f w)) (sym made)
+    (record { spelled = n; valued = sym k.1; fits = subst Fits (sym k.1) k.0 })
+number_read w f (Err e) (Ok z) h n made large = absurd made
+number_read w f (Err e) (Err x) h n made large =
+    inr (n, parsed w (Err e) h n, large e x made)

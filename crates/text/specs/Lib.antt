@@ -3,5 +3,4 @@ pub mod Numbers
 pub mod Faults
 pub mod Reader
 pub mod Spelling
-pub mod Kinds
 pub mod Lines

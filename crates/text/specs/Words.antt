@@ -1,5 +1,5 @@
 -- The words of a line. Assumes nothing.
-use Rattle.std.specs.Prelude.{◌≡◌, ℕ, ◌<◌, ◌≤◌, Bool, true, false, cond, not, ◌&&◌, ◌||◌, List, [], ◌∷◌, ◌++◌, length, ◌==◌, slice_index}
+use Rattle.std.specs.Prelude.{ℕ, Bool, cond, not, ◌&&◌, ◌||◌, List, [], ◌∷◌, ◌++◌, ◌==◌}
 
 -- a space or a tab
 abbrev pub blank : ℕ → Bool
@@ -32,9 +32,3 @@ unended line = chopped 13 (chopped 10 line)
 
 abbrev pub words : List ℕ → List (List ℕ)
 words line = split [] (unended line)
-
--- the first n bytes pass the test, and the next does not
-pub record Front (test : ℕ → Bool) (bs : List ℕ) (n : ℕ) : Type 0 where
-  pub within : n ≤ length bs
-  pub all : (i : ℕ) → i < n → test (slice_index bs i) ≡ true
-  pub stops : n < length bs → test (slice_index bs n) ≡ false

@@ -1,8 +1,17 @@
-// What one line of the format says.
+// What one line says.
 ghost use Rattle.std.specs.Prelude.{Some};
 ghost use Rattle.text.specs.Spelling.{written};
 
 use std::fmt;
+
+// Which entries a line may be.
+#[derive(Clone, Copy, PartialEq, Eq, Debug)]
+pub enum Format {
+    // all but alarms
+    WithoutAlarms,
+    // all
+    WithAlarms,
+}
 
 #[derive(Clone, Copy, PartialEq, Eq, Debug)]
 pub enum Entry {
@@ -15,6 +24,7 @@ pub enum Entry {
     Step,
     Read { gauge: i64, low: i64, high: i64 },
     Show,
+    Alarm { basin: i64, limit: i64 },
 }
 
 impl fmt::Display for Entry {
@@ -35,6 +45,7 @@ impl fmt::Display for Entry {
             Entry::Step => write!(f, "step"),
             Entry::Read { gauge, low, high } => write!(f, "read {gauge} {low} {high}"),
             Entry::Show => write!(f, "show"),
+            Entry::Alarm { basin, limit } => write!(f, "alarm {basin} {limit}"),
         }
     }
 }

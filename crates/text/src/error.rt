@@ -17,6 +17,7 @@ pub enum Field {
     Second,
     Low,
     High,
+    Limit,
 }
 
 impl fmt::Display for Field {
@@ -35,6 +36,7 @@ impl fmt::Display for Field {
             Field::Second => "the second basin",
             Field::Low => "the low value",
             Field::High => "the high value",
+            Field::Limit => "the limit",
         };
         write!(f, "{name}")
     }

@@ -1,40 +1,66 @@
 // One line of the text format: read by `parse`, written by the `Display` of `Entry`.
 #![tactic(auto)]
 
+ghost use Rattle.std.specs.Prelude.{◌≡◌, Err, IsUtf8};
+ghost use Rattle.text.specs.declared.error.LineError.TheVariants.{NotText};
 ghost use Rattle.text.specs.Lines.{Parses};
 
 mod entry;
 mod error;
-mod kinds;
 mod number;
 mod reader;
 mod words;
 
-pub use entry::Entry;
+pub use entry::{Entry, Format};
 pub use error::{Field, LineError};
 use words::Words;
 
-// Reads one line, with or without its end: an entry, or nothing where the line has no words.
-pub fn parse(line: &str) -> Result<Option<Entry>, LineError<'_>>
-    ensures { Parses line.now result }
+// Reads one line, with or without its end: an entry of the format, or nothing where the line has no words.
+// It is no `FromStr`: the error borrows the line.
+pub fn parse(line: &str, format: Format) -> Result<Option<Entry>, LineError<'_>>
+    ensures { Parses format line.now result }
 {
     if line.contains('\0') {
         return Err(LineError::NotText);
     }
     let mut words = Words::of(line);
-    let Some(_) = words.next() else {
+    if words.next().is_none() {
         return Ok(None);
-    };
-    match reader::entry(words) {
-        Ok(entry) => Ok(Some(entry)),
-        Err(fault) => Err(fault),
     }
+    reader::entry(words, format).map(Some)
+}
+
+// The same of bytes: those that are no UTF-8 are no line.
+pub fn parse_bytes(bytes: &[u8], format: Format) -> Result<Option<Entry>, LineError<'_>>
+    ensures text { IsUtf8 bytes.now → Parses format bytes.now result }
+    ensures other { (IsUtf8 bytes.now → ⊥) → result ≡ Err NotText }
+{
+    let line = std::str::from_utf8(bytes).map_err(|_| LineError::NotText)?;
+    parse(line, format)
 }
 
 #[cfg(test)]
 mod tests {
     use super::*;
+    use std::process::Abort;
     use std::test::Fail;
+
+    const FORMATS: [Format; 2] = [Format::WithoutAlarms, Format::WithAlarms];
+
+    fn check_fault(
+        rt: &(impl Abort + AllocGlobal),
+        line: &str,
+        format: Format,
+        message: &str,
+    ) -> Result<(), Fail> {
+        match parse(line, format) {
+            Ok(_) => Err(Fail::new(line)),
+            Err(fault) => {
+                assert_eq!(rt; fault.to_string(rt.alloc())?.as_str(), message);
+                Ok(())
+            }
+        }
+    }
 
     #[test]
     fn reads_each_entry(rt: HostRuntime) -> Result<(), Fail> {
@@ -99,7 +125,9 @@ mod tests {
             ("wrong -9223372036854775808", Entry::Wrong(i64::MIN)),
         ];
         for (line, entry) in table {
-            assert_eq!(rt; parse(line)?, Some(entry), "{}", line);
+            for format in FORMATS {
+                assert_eq!(rt; parse(line, format)?, Some(entry), "{}", line);
+            }
         }
         Ok(())
     }
@@ -107,7 +135,9 @@ mod tests {
     #[test]
     fn passes_lines_without_words(rt: HostRuntime) -> Result<(), Fail> {
         for line in ["", " \t ", "\r\n", "# step", "  # step\n", "#"] {
-            assert_eq!(rt; parse(line)?, None, "{}", line);
+            for format in FORMATS {
+                assert_eq!(rt; parse(line, format)?, None, "{}", line);
+            }
         }
         Ok(())
     }
@@ -140,9 +170,8 @@ mod tests {
             ("step # \0", "a byte that is no text"),
         ];
         for (line, message) in table {
-            match parse(line) {
-                Ok(_) => return Err(Fail::new(line)),
-                Err(fault) => assert_eq!(rt; fault.to_string(rt.alloc())?.as_str(), message),
+            for format in FORMATS {
+                check_fault(&rt, line, format, message)?;
             }
         }
         Ok(())
@@ -160,6 +189,34 @@ mod tests {
             "read 11 -9223372036854775808 -7"
         );
         assert_eq!(rt; Entry::Show.to_string(rt.alloc())?.as_str(), "show");
+        Ok(())
+    }
+
+    #[test]
+    fn reads_and_writes_an_alarm(rt: HostRuntime) -> Result<(), Fail> {
+        let alarm = Entry::Alarm {
+            basin: 2,
+            limit: -250,
+        };
+        assert_eq!(rt; parse("alarm 2 -250", Format::WithAlarms)?, Some(alarm));
+        assert_eq!(rt; alarm.to_string(rt.alloc())?.as_str(), "alarm 2 -250");
+        let table = [
+            ("alarm", "the basin is missing after 'alarm'"),
+            ("alarm 1", "the limit is missing after '1'"),
+            ("alarm 1 +5", "the limit is no number: '+5'"),
+            ("alarm 1 50 2", "'2' is one word too many"),
+        ];
+        for (line, message) in table {
+            check_fault(&rt, line, Format::WithAlarms, message)?;
+        }
+        Ok(())
+    }
+
+    #[test]
+    fn knows_no_alarm_in_the_format_without(rt: HostRuntime) -> Result<(), Fail> {
+        for line in ["alarm 2 -250", "alarm", "alarm 1 +5"] {
+            check_fault(&rt, line, Format::WithoutAlarms, "'alarm' is no entry")?;
+        }
         Ok(())
     }
 }

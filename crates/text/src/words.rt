@@ -1,47 +1,11 @@
 // The words of a line, one after another.
-ghost use Rattle.std.specs.Prelude.{◌≡◌, ℕ, List, [], MatchOption, MatchResult};
-ghost use Rattle.text.specs.Words.{blank, letter, Front, unended, words};
+ghost use Rattle.std.specs.Prelude.{◌≡◌, ℕ, List, [], ◌∷◌, length, MatchOption, MatchResult};
+ghost use Rattle.std.specs.Iterator.{item_count};
+ghost use Rattle.text.specs.Words.{unended, words};
 ghost use Rattle.text.specs.Reader.{left, Next, Takes, Lacks, Holds, Fails};
 
 use crate::error::{Field, LineError};
 use crate::number::number;
-
-fn is_blank(byte: u8) -> bool
-    ensures { result ≡ blank byte }
-{
-    byte == b' ' || byte == b'\t'
-}
-
-// A byte of a word: no blank and no '#'.
-fn is_letter(byte: u8) -> bool
-    ensures { result ≡ letter byte }
-{
-    !is_blank(byte) && byte != b'#'
-}
-
-// How many blanks come first.
-fn gap_len(bytes: &[u8]) -> usize
-    ensures { Front blank bytes.now result }
-{
-    for (i, b) in bytes.iter().enumerate() {
-        if !is_blank(*b) {
-            return i;
-        }
-    }
-    bytes.len()
-}
-
-// How many bytes of a word come first.
-fn word_len(bytes: &[u8]) -> usize
-    ensures { Front letter bytes.now result }
-{
-    for (i, b) in bytes.iter().enumerate() {
-        if !is_letter(*b) {
-            return i;
-        }
-    }
-    bytes.len()
-}
 
 // The line without its end: LF, CR LF, CR or nothing.
 fn body(line: &str) -> &str
@@ -52,10 +16,30 @@ fn body(line: &str) -> &str
 }
 
 // What is left of a line, and the word before it.
-#[derive(Clone, Copy)]
+#[derive(Drop)]
 pub struct Words<'a> {
     pub rest: &'a str,
     pub last: &'a str,
+}
+
+impl<'a> Iterator for Words<'a> {
+    type Item = &'a str;
+
+    ghost next_gives = { λ s r t. MatchOption r (left s ≡ []) (Next s t) };
+
+    ghost remaining = { item_count left };
+
+    fn next(&mut self) -> Option<&'a str> {
+        let rest = self.rest.trim_start_matches([' ', '\t']);
+        let end = rest.find([' ', '\t', '#']).unwrap_or(rest.len());
+        if end == 0 {
+            return None;
+        }
+        let (word, after) = rest.split_at(end);
+        self.rest = after;
+        self.last = word;
+        Some(word)
+    }
 }
 
 impl<'a> Words<'a> {
@@ -68,38 +52,42 @@ impl<'a> Words<'a> {
         }
     }
 
-    pub fn next(&mut self) -> Option<&'a str>
-        ensures { MatchOption result (left self.old ≡ []) (Next self.old self.new) }
-    {
-        let (_, rest) = self.rest.split_at(gap_len(self.rest.as_bytes()));
-        let len = word_len(rest.as_bytes());
-        if len == 0 {
-            return None;
-        }
-        let (word, after) = rest.split_at(len);
-        self.rest = after;
-        self.last = word;
-        Some(word)
-    }
-
     // The next word, as the number of `field`.
-    pub fn number(&mut self, field: Field) -> Result<i64, LineError<'a>>
+    fn number(&mut self, field: Field) -> Result<i64, LineError<'a>>
         ensures { MatchResult result (Takes self.old self.new) (Lacks field self.old) }
     {
         let after = self.last;
-        match self.next() {
-            Some(word) => number(word, field),
-            None => Err(LineError::Missing { field, after }),
-        }
+        let word = self.next().ok_or(LineError::Missing { field, after })?;
+        number(word, field)
     }
 
     // There must be no further word.
-    pub fn end(&mut self) -> Result<(), LineError<'a>>
-        ensures { MatchResult result (λ _. Holds self.old []) (Fails self.old []) }
+    pub fn end(mut self) -> Result<(), LineError<'a>>
+        ensures { MatchResult result (λ _. Holds self.entry []) (Fails self.entry []) }
     {
         match self.next() {
             Some(word) => Err(LineError::Extra { word }),
             None => Ok(()),
         }
+    }
+
+    // The words that are left, as the numbers of the fields.
+    pub fn numbers<const N: usize>(mut self, fields: [Field; N]) -> Result<[i64; N], LineError<'a>>
+        ensures { MatchResult result (Holds self.entry) (Fails self.entry fields.entry) }
+    {
+        let mut numbers = [0; N];
+        for (i, field) in fields.iter().enumerate() {
+            numbers[i] = self.number(*field)?;
+        }
+        self.end()?;
+        Ok(numbers)
+    }
+
+    // The one word that is left, as a number.
+    pub fn count(self, field: Field) -> Result<i64, LineError<'a>>
+        ensures { MatchResult result (λ z. Holds self.entry (z ∷ [])) (Fails self.entry (field ∷ [])) }
+    {
+        let [count] = self.numbers([field])?;
+        Ok(count)
     }
 }

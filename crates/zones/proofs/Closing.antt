@@ -1,6 +1,7 @@
 -- The closing as a whole: numbers that are settled and turned, or that stand for no levels. Assumes nothing.
-use Rattle.std.proofs.Common.{◌≡◌, ℕ, zero, suc, ◌+◌, ◌*◌, ◌^◌, ◌<◌, ◌≤◌, Bool, true, false, List, get_or, replicate, ℤ, pos, negsuc, sym, refl, ap, ◌∙◌, subst, inl, inr, arith, pow_pos}
+use Rattle.std.proofs.Common.{◌≡◌, ℕ, ◌+◌, ◌*◌, ◌^◌, ◌≤◌, Bool, true, false, List, ℤ, pos, negsuc, sym, refl, ap, ◌∙◌, subst, inl, inr, arith, pow_pos}
 use lib.Signed.{lt_z}
+use Rattle.std.proofs.lemmas.List.{get_or-replicate}
 use Rattle.std.proofs.lemmas.Int.{ints}
 use Rattle.theory.specs.Bound.{Holds, zero_bound}
 use Rattle.theory.specs.Zone.{In, Empty}
@@ -13,15 +14,10 @@ use Rattle.zones.proofs.Cells.{place_within}
 use Rattle.zones.proofs.Turning.{below_itself}
 use Rattle.zones.proofs.Writing.{bound_is}
 
-get_d_replicate : {A : Type 0} (m k : ℕ) (v d : A) → k < m → get_or (replicate m v) k d ≡ v
-get_d_replicate zero k v d h = absurd (omega arith)
-get_d_replicate (suc m) zero v d h = refl
-get_d_replicate (suc m) (suc k) v d h = get_d_replicate m k v d (omega arith)
-
 -- each number of the numbers that stand for no levels is below itself
 pub no_levels_cell : (n i j : ℕ) → i ≤ n → j ≤ n → cell n (no_levels n) i j ≡ negsuc 0
 unfolding cell
-no_levels_cell n i j hi hj = get_d_replicate ((n + 1) * (n + 1)) _ (negsuc 0) (pos 0) (place_within n i j hi hj)
+no_levels_cell n i j hi hj = get_or-replicate ((n + 1) * (n + 1)) _ (negsuc 0) (pos 0) (place_within n i j hi hj)
 
 pub no_levels_empty : (n : ℕ) → Empty n (zone_of n (no_levels n))
 no_levels_empty n x p =

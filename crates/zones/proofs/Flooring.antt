@@ -33,9 +33,6 @@ pub record Column (n j i : ℕ) (xs ys : List ℕ) : Type 0 where
   pub done : (a : ℕ) → 1 ≤ a → a < i → a ≤ n → number_at n ys a j ≡ lowered (number_at n xs) a j
   pub rest : (a b : ℕ) → a ≤ n → b ≤ n → (b ≡ j → (a ≡ 0) ⊎ (i ≤ a)) → number_at n ys a b ≡ number_at n xs a b
 
-pub column_none : (n j : ℕ) (xs : List ℕ) → Column n j 1 xs xs
-column_none n j xs = record { done = λ a l h _. absurd (omega arith); rest = λ a b _ _ _. refl }
-
 module _ (n j i : ℕ) (xs ys : List ℕ) (some : 1 ≤ j) (hj : j ≤ n) (low : 1 ≤ i) (hi : i ≤ n) (t : Column n j i xs ys) where
   as_it_was : number_at n ys i j ≡ number_at n xs i j
   as_it_was = t.rest i j hi hj (λ _. inr (omega arith))
@@ -105,12 +102,6 @@ floored_datum w a = grind (arith, nat_tests)
 pub record Columns (n j : ℕ) (xs ys : List ℕ) : Type 0 where
   pub done : (a b : ℕ) → a ≤ n → b ≤ n → b < j → number_at n ys a b ≡ floored_at (number_at n xs) a b
   pub rest : (a b : ℕ) → a ≤ n → b ≤ n → j ≤ b → number_at n ys a b ≡ number_at n xs a b
-
-pub columns_none : (n : ℕ) (xs : List ℕ) → Columns n 1 xs xs
-columns_none n xs = record {
-  done = λ a b _ _ h. let e : b ≡ 0 = omega arith in rw e (sym (floored_datum (number_at n xs) a));
-  rest = λ a b _ _ _. refl;
-}
 
 module _ (n j : ℕ) (xs ys zs : List ℕ) (some : 1 ≤ j) (hj : j ≤ n) (t : Columns n j xs ys) (u : FlooredBasin n j ys zs) where
   column_here : (a : ℕ) → a ≤ n → number_at n zs a j ≡ floored_at (number_at n xs) a j

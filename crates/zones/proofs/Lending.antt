@@ -13,7 +13,8 @@ use Rattle.theory.specs.Zone.{Zone, In, SameLevels, Closed, Floored, Canonical, 
 use Rattle.theory.proofs.Bounds.{difference_is, no_larger_refl, no_larger_trans, sum_no_larger}
 use Rattle.theory.proofs.Widen.{widening, widen_closed}
 use Rattle.zones.specs.Lent.{bound_of_code, number_at, zone_in, rate_of, rates_in, WidenedLent}
-use Rattle.zones.specs.Lent.{grown, grown_at, smaller, above_zero, floored_at}
+use Rattle.zones.specs.Lent.{grown, grown_at, smaller, above_zero, floored_at, Grown, FlooredAll}
+use Rattle.zones.proofs.Flooring.{floored_like}
 
 -- a bound is none or above 0
 abbrev pub positive : Bound → Bool
@@ -204,7 +205,7 @@ module _ (n : ℕ) (rise fall xs : List ℕ) where
         let o : 0 ≤ n = omega arith in let w = code_wider ca in
         ap bound_of_code (each i j hi hj) ∙ code_floored stands wider i j (w i j hi hj) (w 0 j o hj) (w i 0 hi o)
 
-    pub widened_lent : WidenedLent n rise fall xs ys
+    widened_lent : WidenedLent n rise fall xs ys
     widened_lent = record {
       each = each;
       canonical = λ ca.
@@ -215,3 +216,11 @@ module _ (n : ℕ) (rise fall xs : List ℕ) where
       comes = λ ca y p.
           (widening n rates lent ca).1 y ((wider_same ca y).1 (in_same n (zone_in n ys) (above_datum wider) (left_is ca) y p));
     }
+
+-- numbers that have grown, and then are without the levels below the datum
+pub widened_by : (n : ℕ) (rise fall xs ws ys : List ℕ) → Grown n rise fall xs ws → FlooredAll n ws ys →
+    WidenedLent n rise fall xs ys
+widened_by n rise fall xs ws ys g f = widened_lent n rise fall xs ys (λ i j hi hj.
+    f i j hi hj
+    ∙ floored_like (number_at n ws) (λ a b. grown_at rise fall a b (number_at n xs a b)) i j (g i j hi hj)
+    (g 0 j (omega arith) hj) (g i 0 hi (omega arith)))

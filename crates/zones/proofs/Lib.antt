@@ -3,7 +3,7 @@ pub mod Turning
 pub mod Writing
 pub mod Settling
 pub mod Closing
-pub mod Filling
+pub mod Mapping
 pub mod Checked
 pub mod Meeting
 pub mod Near

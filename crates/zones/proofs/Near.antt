@@ -1,14 +1,13 @@
 -- What holds of a closing, a step and a reading for larger numbers holds for smaller ones. Assumes nothing.
 use Rattle.std.proofs.Common.{◌≡◌, ℕ, ◌≤◌, Bool, ◌⊎◌, List, ℤ, inl, inr, arith}
 use Rattle.theory.specs.Bound.{NoLarger}
-use Rattle.theory.specs.Level.{Levels, Moves}
-use Rattle.theory.specs.Zone.{In, Empty, Canonical}
+use Rattle.theory.specs.Zone.{Empty, Canonical}
 use Rattle.theory.proofs.Reach.{some_levels}
 use Rattle.bounds.proofs.Laws.{sized_more}
 use Rattle.zones.specs.declared.kinds.Rate.{Rate}
 use Rattle.zones.specs.declared.kinds.Reading.{Reading}
 use Rattle.zones.specs.Numbers.{zone_of, no_levels, AllSized, limit, closing_reach, Turns, TurnsFar, FarForm, Closes, ClosesFar}
-use Rattle.zones.specs.Change.{rates_of, reach, step_reach, Roof, Steps, StepsFar, Reads, ReadsFar}
+use Rattle.zones.specs.Change.{reach, step_reach, Roof, Steps, StepsFar, Reads, ReadsFar}
 
 sized_in : (g h n : ℕ) (xs : List ℤ) → g ≤ h → AllSized g n xs → AllSized h n xs
 sized_in g h n xs l s i j hi hj = sized_more g h (zone_of n xs i j) l (s i j hi hj)

@@ -1,12 +1,12 @@
 -- Bounds that every zone of levels has: no number is above itself, no level below the datum. Assumes nothing.
-use Rattle.std.proofs.Common.{◌≡◌, ℕ, ◌+◌, ◌*◌, ◌<◌, ◌≤◌, true, false, List, length, set, ℤ, pos, ◌≤ℤ◌, ◌<ℤ◌, sym, refl, ◌∙◌, subst, ⊎_elim, arith, length-set}
+use Rattle.std.proofs.Common.{◌≡◌, ℕ, ◌+◌, ◌*◌, ◌<◌, ◌≤◌, true, false, ◌≢◌, List, length, set, ℤ, pos, ◌≤ℤ◌, ◌<ℤ◌, sym, refl, ap, ◌∙◌, subst, ⊎_elim, arith, length-set}
 use Rattle.std.specs.Int.{int_min}
 use Rattle.std.proofs.lemmas.Int.{ints, clamps}
 use Rattle.std.proofs.lemmas.Bool.{cases_eq, cases_lt, true≢false, false≢true}
 use Rattle.theory.specs.Bound.{Holds, NoLarger, zero_bound}
 use Rattle.theory.specs.Level.{Levels, difference}
 use Rattle.theory.specs.Zone.{SameLevels}
-use Rattle.theory.proofs.Bounds.{difference_is, difference_same, no_larger_refl, no_larger_trans}
+use Rattle.theory.proofs.Bounds.{difference_is, difference_same, no_larger_trans}
 use Rattle.bounds.specs.Meaning.{bound_of}
 use Rattle.bounds.proofs.Laws.{le_no_larger}
 use Rattle.zones.specs.Numbers.{cell, zone_of, AllSized, Settles}
@@ -31,13 +31,12 @@ kept_trans n xs ys zs a b = record {
   sized = λ h s. b.sized h (a.sized h s);
 }
 
-pub zero_write : (n : ℕ) (xs : List ℤ) (p q : ℕ) (v : ℤ) → p ≤ n → q ≤ n → length xs ≡ (n + 1) * (n + 1) →
-    v ≡ int_min (cell n xs p q) (pos 0) → ((x : Levels) → x 0 ≡ 0 → difference x p q ≤ℤ pos 0) →
-    KeptLevels n xs (set xs (place n p q) v)
-zero_write n xs p q v hp hq long is known =
-    let m : Met n p q (pos 0) xs (set xs (place n p q) v) =
-    subst (λ u. Met n p q (pos 0) xs (set xs (place n p q) u)) (sym is)
-    (met n xs p q (pos 0) hp hq long (omega (arith, ints))) in
+zero_write : (n : ℕ) (xs ys : List ℤ) (p q : ℕ) → p ≤ n → q ≤ n → length xs ≡ (n + 1) * (n + 1) →
+    ys ≡ set xs (place n p q) (int_min (cell n xs p q) (pos 0)) → ((x : Levels) → x 0 ≡ 0 → difference x p q ≤ℤ pos 0) →
+    KeptLevels n xs ys
+zero_write n xs ys p q hp hq long is known =
+    let m : Met n p q (pos 0) xs ys =
+    subst (Met n p q (pos 0) xs) (sym is) (met n xs p q (pos 0) hp hq long (omega (arith, ints))) in
     record {
       levels = λ x. (λ l. m.to x l (known x l.datum), λ l. (m.from x l).0);
       smaller = m.smaller;
@@ -50,65 +49,68 @@ pub record Settled (n j : ℕ) (xs ys : List ℤ) : Type 0 where
   pub itself : (i : ℕ) → i < j → i ≤ n → cell n ys i i ≡ pos 0
   pub floored : (i : ℕ) → i < j → i ≤ n → cell n ys 0 i ≤ℤ pos 0
 
-pub settled_none : (n : ℕ) (xs : List ℤ) → Settled n 0 xs xs
-settled_none n xs = record {
-  kept = record { levels = λ x. (λ p. p, λ p. p); smaller = λ i j hi hj. no_larger_refl (zone_of n xs i j); sized = λ h s. s };
-  itself = λ i h. absurd (omega arith);
-  floored = λ i h. absurd (omega arith);
-}
-
-module _ (n j : ℕ) (xs ys : List ℤ) (u : ℤ) (hj : j ≤ n) (long : length ys ≡ (n + 1) * (n + 1))
-    (is : u ≡ int_min (cell n ys 0 j) (pos 0)) (s : Settled n j xs ys) where
-  floor_kept : KeptLevels n xs (set ys (place n 0 j) u)
-  floor_kept = kept_trans n xs ys (set ys (place n 0 j) u) s.kept
-      (zero_write n ys 0 j u (omega arith) hj long is (λ x o. let d = difference_is x 0 j in omega (arith, ints)))
+module _ (n j : ℕ) (xs ys ws : List ℤ) (hj : j ≤ n) (long : length ys ≡ (n + 1) * (n + 1))
+    (is : ws ≡ set ys (place n 0 j) (int_min (cell n ys 0 j) (pos 0))) (s : Settled n j xs ys) where
+  floor_kept : KeptLevels n xs ws
+  floor_kept = kept_trans n xs ys ws s.kept
+      (zero_write n ys ws 0 j (omega arith) hj long is (λ x o. let d = difference_is x 0 j in omega (arith, ints)))
 
   -- a number below itself
-  pub settled_empty : cell n (set ys (place n 0 j) u) j j <ℤ pos 0 → Settles n xs false (set ys (place n 0 j) u)
+  pub settled_empty : cell n ws j j <ℤ pos 0 → Settles n xs false ws
   settled_empty neg = record {
     levels = floor_kept.levels;
     smaller = floor_kept.smaller;
     itself = λ e. absurd (false≢true e);
     floored = λ e. absurd (false≢true e);
     sized = floor_kept.sized;
-    empty = λ _ x p. below_itself _ neg (subst (Holds (zone_of n (set ys (place n 0 j) u) j j)) (difference_same x j)
+    empty = λ _ x p. below_itself _ neg (subst (Holds (zone_of n ws j j)) (difference_same x j)
         (((floor_kept.levels x).0 p).holds j j hj hj));
   }
 
   -- one number more
-  pub settled_more : pos 0 ≤ℤ cell n (set ys (place n 0 j) u) j j →
-      Settled n (j + 1) xs (set (set ys (place n 0 j) u) (place n j j) (pos 0))
-  settled_more ok =
-      let y₁ : List ℤ = set ys (place n 0 j) u in
-      let y₂ : List ℤ = set y₁ (place n j j) (pos 0) in
-      let long₁ : length y₁ ≡ (n + 1) * (n + 1) = length-set ys (place n 0 j) u ∙ long in
-      let at_j : cell n y₂ j j ≡ pos 0 = cell_same n y₁ j j (pos 0) hj hj long₁ in
-      let at_0 : cell n y₁ 0 j ≡ u = cell_same n ys 0 j u (omega arith) hj long in
-      let floor_j : cell n y₂ 0 j ≤ℤ pos 0 = ⊎_elim
-      (λ z. let q : cell n y₂ 0 j ≡ pos 0 = subst (λ k. cell n y₂ k j ≡ pos 0) z at_j in omega (arith, ints))
-      (λ z. let o : cell n y₂ 0 j ≡ cell n y₁ 0 j = cell_other n y₁ j j 0 j (pos 0)
-      (λ e. z (sym (same_row n 0 j j j hj hj e))) in omega (arith, ints, clamps))
-      (cases_eq j 0) in
-      record {
-        kept = kept_trans n xs y₁ y₂ floor_kept (zero_write n y₁ j j (pos 0) hj hj long₁ (omega (arith, ints, clamps))
-            (λ x o. let d = difference_same x j in omega (arith, ints)));
-        itself = λ i h hi. ⊎_elim
-            (λ l.
-            cell_other n y₁ j j i i (pos 0) (λ e. let r = same_row n i i j j hi hj e in omega arith)
-            ∙ cell_other n ys 0 j i i u (λ e. let r = same_column n i i 0 j hi hj e in omega arith)
-            ∙ s.itself i l hi)
-            (λ l. let e : i ≡ j = omega arith in rw e at_j)
-            (cases_lt i j);
-        floored = λ i h hi. ⊎_elim
-            (λ l.
-            let o : cell n y₂ 0 i ≡ cell n y₁ 0 i = cell_other n y₁ j j 0 i (pos 0) (λ e. let r =
-            same_column n 0 i j j hi hj e in omega arith) in
-            let p : cell n y₁ 0 i ≡ cell n ys 0 i = cell_other n ys 0 j 0 i u (λ e. let r =
-            same_column n 0 i 0 j hi hj e in omega arith) in
-            let f = s.floored i l hi in omega (arith, ints))
-            (λ l. let e : i ≡ j = omega arith in rw e floor_j)
-            (cases_lt i j);
-      }
+  module _ (zs : List ℤ) (ok : pos 0 ≤ℤ cell n ws j j) (itself : zs ≡ set ws (place n j j) (int_min (cell n ws j j) (pos 0))) where
+    ws_long : length ws ≡ (n + 1) * (n + 1)
+    ws_long = ap length is ∙ length-set ys (place n 0 j) _ ∙ long
+
+    -- the write on the diagonal, and the one in the datum's row, leave all else
+    own_other : (a b : ℕ) → place n a b ≢ place n j j → cell n zs a b ≡ cell n ws a b
+    own_other a b ne = ap (λ vs. cell n vs a b) itself ∙ cell_other n ws j j a b _ ne
+
+    row_other : (a b : ℕ) → place n a b ≢ place n 0 j → cell n ws a b ≡ cell n ys a b
+    row_other a b ne = ap (λ vs. cell n vs a b) is ∙ cell_other n ys 0 j a b _ ne
+
+    own_is : cell n zs j j ≡ pos 0
+    own_is = ap (λ vs. cell n vs j j) itself ∙ cell_same n ws j j _ hj hj ws_long ∙ omega (arith, ints, clamps)
+
+    row_is : cell n ws 0 j ≡ int_min (cell n ys 0 j) (pos 0)
+    row_is = ap (λ vs. cell n vs 0 j) is ∙ cell_same n ys 0 j _ (omega arith) hj long
+
+    floor_is : cell n zs 0 j ≤ℤ pos 0
+    floor_is = ⊎_elim
+        (λ z. let q : cell n zs 0 j ≡ pos 0 = subst (λ k. cell n zs k j ≡ pos 0) z own_is in omega (arith, ints))
+        (λ z. let o : cell n zs 0 j ≡ cell n ws 0 j = own_other 0 j (λ e. z (sym (same_row n 0 j j j hj hj e))) in
+        let r = row_is in omega (arith, ints, clamps))
+        (cases_eq j 0)
+
+    pub settled_more : Settled n (j + 1) xs zs
+    settled_more = record {
+      kept = kept_trans n xs ws zs floor_kept
+          (zero_write n ws zs j j hj hj ws_long itself (λ x o. let d = difference_same x j in omega (arith, ints)));
+      itself = λ i h hi. ⊎_elim
+          (λ l.
+          own_other i i (λ e. let r = same_row n i i j j hi hj e in omega arith)
+          ∙ row_other i i (λ e. let r = same_column n i i 0 j hi hj e in omega arith)
+          ∙ s.itself i l hi)
+          (λ l. let e : i ≡ j = omega arith in rw e own_is)
+          (cases_lt i j);
+      floored = λ i h hi. ⊎_elim
+          (λ l.
+          let o : cell n zs 0 i ≡ cell n ws 0 i = own_other 0 i (λ e. let r = same_column n 0 i j j hi hj e in omega arith) in
+          let p : cell n ws 0 i ≡ cell n ys 0 i = row_other 0 i (λ e. let r = same_column n 0 i 0 j hi hj e in omega arith) in
+          let f = s.floored i l hi in omega (arith, ints))
+          (λ l. let e : i ≡ j = omega arith in rw e floor_is)
+          (cases_lt i j);
+    }
 
 pub settled_all : (n : ℕ) (xs ys : List ℤ) → Settled n (n + 1) xs ys → Settles n xs true ys
 settled_all n xs ys s = record {

@@ -1,5 +1,5 @@
 -- The first zone in lent numbers. Assumes nothing.
-use Rattle.std.proofs.Common.{◌≡◌, ℕ, zero, suc, ◌-◌, ◌^◌, ◌≤◌, Bool, true, false, cond, eqb, ◌≢◌, List, get_or, ℤ, pos, ◌-ℤ◌, neg_ℤ, ◌≤ℤ◌, None, refl, ap, ◌∙◌, arith}
+use Rattle.std.proofs.Common.{◌≡◌, ℕ, zero, suc, ◌^◌, ◌≤◌, Bool, true, false, cond, eqb, List, ℤ, pos, ◌-ℤ◌, neg_ℤ, ◌≤ℤ◌, None, refl, ap, ◌∙◌, arith}
 use Rattle.std.proofs.lemmas.Int.{ints}
 use Rattle.std.proofs.lemmas.Bool.Decides.{nat_tests}
 use Rattle.refusal.proofs.Firsts.{each}
@@ -15,15 +15,6 @@ use Rattle.zones.specs.Change.{least_of, most_of, first_number, ranges_of, Start
 use Rattle.zones.specs.Numbers.{cell, zone_of}
 use Rattle.zones.proofs.Checked.{ranges_ok}
 use Rattle.zones.proofs.Writing.{bound_is}
-
--- the range of a basin stands one place before its number
-pub least_at : (rs : List Range) (i : ℕ) → i ≢ 0 → (get_or rs (i - 1) (record { least = 0; most = 0 })).least ≡ least_of rs i
-least_at rs zero ne = absurd (ne refl)
-least_at rs (suc i) ne = ap (λ k. (get_or rs k (record { least = 0; most = 0 })).least) (omega arith)
-
-pub most_at : (rs : List Range) (i : ℕ) → i ≢ 0 → (get_or rs (i - 1) (record { least = 0; most = 0 })).most ≡ most_of rs i
-most_at rs zero ne = absurd (ne refl)
-most_at rs (suc i) ne = ap (λ k. (get_or rs k (record { least = 0; most = 0 })).most) (omega arith)
 
 -- each range is in order
 pub range_within : (n : ℕ) (rs : List Range) → range_refused n rs ≡ None → (i : ℕ) →

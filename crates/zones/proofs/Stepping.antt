@@ -1,5 +1,5 @@
 -- A step in lent numbers: bounds that grow between two closings. Assumes nothing.
-use Rattle.std.proofs.Common.{◌≡◌, ℕ, zero, suc, ◌+◌, ◌-◌, ◌^◌, ◌≤◌, cond, eqb, ◌≢◌, ◌⊎◌, List, get_or, ℤ, pos, negsuc, ◌+ℤ◌, ◌≤ℤ◌, None, sym, refl, ap, ◌∙◌, subst, inl, inr, ⊎_elim, arith, eq-eqb}
+use Rattle.std.proofs.Common.{◌≡◌, ℕ, zero, suc, ◌+◌, ◌^◌, ◌≤◌, cond, eqb, ◌≢◌, ◌⊎◌, List, ℤ, pos, negsuc, ◌+ℤ◌, ◌≤ℤ◌, None, sym, refl, ap, ◌∙◌, subst, inl, inr, ⊎_elim, arith, eq-eqb}
 use Rattle.std.proofs.lemmas.Int.{ints}
 use Rattle.std.proofs.lemmas.Bool.{cases_eq}
 use Rattle.std.proofs.lemmas.Bool.Decides.{nat_tests}
@@ -61,20 +61,7 @@ fall_within n rs e (suc i) hi =
     let ok = rates_ok n rs e in let l = ok.0 in
     let t = each fall_ok 0 rs i (record { rise = 0; fall = 0 }) ok.2 (omega arith) in grind (arith, nat_tests)
 
--- the rates of a basin stand one place before its number
-pub rise_at : (rs : List Rate) (i : ℕ) → i ≢ 0 → (get_or rs (i - 1) (record { rise = 0; fall = 0 })).rise ≡ rise_of rs i
-rise_at rs zero ne = absurd (ne refl)
-rise_at rs (suc i) ne = ap (λ k. (get_or rs k (record { rise = 0; fall = 0 })).rise) (omega arith)
-
-pub fall_at : (rs : List Rate) (i : ℕ) → i ≢ 0 → (get_or rs (i - 1) (record { rise = 0; fall = 0 })).fall ≡ fall_of rs i
-fall_at rs zero ne = absurd (ne refl)
-fall_at rs (suc i) ne = ap (λ k. (get_or rs k (record { rise = 0; fall = 0 })).fall) (omega arith)
-
 -- ---- bounds that grow, and the closing after them
--- what a step makes of one number
-abbrev pub grow : List Rate → ℕ → ℕ → ℤ → ℤ
-grow rs i j v = cond (eqb i j) v (total_sum v (pos (rise_of rs i + fall_of rs j)))
-
 grown_holds : (b : Bound) (m r f : ℕ) (d e : ℤ) → Holds b d → m ≡ r + f → e ≤ℤ (d +ℤ pos (r + f)) →
     Holds (sum b (at_most (pos m))) e
 grown_holds b m r f d e h q l = grind (arith, ints)

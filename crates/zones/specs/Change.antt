@@ -1,5 +1,5 @@
 -- What the first zone, a step and a reading leave of a zone in lent numbers. Assumes nothing: these are definitions.
-use Rattle.std.specs.Prelude.{◌≡◌, ℕ, zero, suc, ◌+◌, ◌^◌, ◌≤◌, cond, ◌⊎◌, List, ℤ, pos, ◌-ℤ◌, ◌==◌, slice_index_or, refl}
+use Rattle.std.specs.Prelude.{◌≡◌, ℕ, ◌+◌, ◌^◌, ◌≤◌, cond, ◌⊎◌, List, ℤ, pos, ◌-ℤ◌, ◌==◌, refl}
 use Rattle.theory.specs.Bound.{at_most, NoLarger}
 use Rattle.theory.specs.Level.{Levels, Ranges, Within, Rates, Moves}
 use Rattle.theory.specs.Zone.{In, Empty, Canonical}
@@ -8,17 +8,15 @@ use Rattle.theory.specs.History as history
 use Rattle.zones.specs.declared.kinds.Range.{Range}
 use Rattle.zones.specs.declared.kinds.Rate.{Rate}
 use Rattle.zones.specs.declared.kinds.Reading.{Reading}
-use Rattle.zones.specs.Numbers.{zone_of, no_levels, AllSized}
+use Rattle.zones.specs.Numbers.{of_number, zone_of, no_levels, AllSized}
 
 -- ---- the theory's words for what is lent
 -- The range of number i: the datum's is 0 to 0, a basin's is in the list.
 abbrev pub least_of : List Range → ℕ → ℕ
-least_of rs zero = 0
-least_of rs (suc i) = (slice_index_or rs i (record { least = 0; most = 0 })).least
+least_of rs i = (of_number (record { least = 0; most = 0 }) rs i).least
 
 abbrev pub most_of : List Range → ℕ → ℕ
-most_of rs zero = 0
-most_of rs (suc i) = (slice_index_or rs i (record { least = 0; most = 0 })).most
+most_of rs i = (of_number (record { least = 0; most = 0 }) rs i).most
 
 abbrev pub ranges_of : List Range → Ranges
 ranges_of rs = record { least = least_of rs; most = λ i. at_most (pos (most_of rs i)); datum = (refl, refl) }
@@ -29,12 +27,10 @@ first_number rs i j = cond (i == j) (pos 0) (pos (most_of rs i) -ℤ pos (least_
 
 -- How much number i can rise and fall: the datum not at all.
 abbrev pub rise_of : List Rate → ℕ → ℕ
-rise_of rs zero = 0
-rise_of rs (suc i) = (slice_index_or rs i (record { rise = 0; fall = 0 })).rise
+rise_of rs i = (of_number (record { rise = 0; fall = 0 }) rs i).rise
 
 abbrev pub fall_of : List Rate → ℕ → ℕ
-fall_of rs zero = 0
-fall_of rs (suc i) = (slice_index_or rs i (record { rise = 0; fall = 0 })).fall
+fall_of rs i = (of_number (record { rise = 0; fall = 0 }) rs i).fall
 
 abbrev pub rates_of : List Rate → Rates
 rates_of rs = record { rise = rise_of rs; fall = fall_of rs; datum = (refl, refl) }

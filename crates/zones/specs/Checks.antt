@@ -9,10 +9,17 @@ use Rattle.zones.specs.declared.kinds.Range.{Range}
 use Rattle.zones.specs.declared.kinds.Rate.{Rate}
 use Rattle.zones.specs.declared.kinds.Reading.{Reading}
 
+-- So many basins.
+abbrev pub basins_refused : ℕ → Option Refusal
+basins_refused n = when (nat_lt n 1 || nat_lt 8 n) refuses.Basins
+
+-- Another length than is needed.
+abbrev pub length_refused : ℕ → ℕ → Option Refusal
+length_refused needed len = when (not (len == needed)) (refuses.Length len)
+
 -- The number of basins, and the numbers of a zone.
 abbrev pub size_refused : ℕ → ℕ → Option Refusal
-size_refused n len =
-    or_else (when (nat_lt n 1 || nat_lt 8 n) refuses.Basins) (when (not (len == (n + 1) * (n + 1))) (refuses.Length len))
+size_refused n len = or_else (basins_refused n) (length_refused ((n + 1) * (n + 1)) len)
 
 -- A range for each basin, which does not end before it begins, or above 100,000.
 abbrev pub range_ok : Range → Bool
@@ -20,7 +27,7 @@ range_ok r = nat_le r.least r.most && nat_le r.most 100000
 
 abbrev pub range_refused : ℕ → List Range → Option Refusal
 range_refused n rs =
-    or_else (when (not (length rs == n)) (refuses.Length (length rs)))
+    or_else (length_refused n (length rs))
     (option_map (λ i. refuses.Range (i + 1)) (first_bad range_ok 0 rs))
 
 -- Rates for each basin, of which none is above 10,000: the basin is the place, with the number of basins added for a fall.
@@ -32,7 +39,7 @@ fall_ok r = nat_le r.fall 10000
 
 abbrev pub rate_refused : ℕ → List Rate → Option Refusal
 rate_refused n rs =
-    or_else (when (not (length rs == n)) (refuses.Length (length rs)))
+    or_else (length_refused n (length rs))
     (or_else (option_map (λ i. refuses.Rate (i + 1)) (first_bad rise_ok 0 rs))
     (option_map (λ i. refuses.Rate (n + (i + 1))) (first_bad fall_ok 0 rs)))
 
@@ -55,9 +62,6 @@ abbrev pub meet_refused : ℕ → ℕ → Reading → Option Refusal
 meet_refused n len r = or_else (size_refused n len) (reading_refused n r)
 
 -- So many basins, and a range or rates for each of them, where no zone is lent with them.
-abbrev pub basins_refused : ℕ → Option Refusal
-basins_refused n = when (nat_lt n 1 || nat_lt 8 n) refuses.Basins
-
 abbrev pub ranges_refused : ℕ → List Range → Option Refusal
 ranges_refused n rs = or_else (basins_refused n) (range_refused n rs)
 

@@ -1,12 +1,14 @@
 -- A zone that is lent by itself, in numbers without sign. Assumes nothing: these are definitions.
-use Rattle.std.specs.Prelude.{◌≡◌, ℕ, zero, suc, ◌+◌, ◌*◌, ◌≤◌, min, Bool, cond, not, ◌||◌, List, length, pos, ◌-ℤ◌, Option, ◌==◌, nat_le, nat_lt, slice_index, refl}
+use Rattle.std.specs.Prelude.{◌≡◌, ℕ, ◌+◌, ◌*◌, ◌≤◌, min, Bool, cond, ◌||◌, List, length, pos, ◌-ℤ◌, Option, ◌==◌, nat_le, nat_lt, slice_index, refl}
 use Rattle.std.specs.Option.{option_map}
-use Rattle.refusal.specs.Order.{when, or_else, first_bad}
+use Rattle.refusal.specs.Order.{or_else, first_bad}
 use Rattle.refusal.specs.declared.kinds.Refusal.{Refusal}
 use Rattle.refusal.specs.declared.kinds.Refusal.TheVariants as refuses
 use Rattle.theory.specs.Bound.{Bound, none, at_most}
 use Rattle.theory.specs.Level.{Levels, Rates, Moves}
 use Rattle.theory.specs.Zone.{Zone, In, Canonical}
+use Rattle.zones.specs.Checks.{length_refused, size_refused}
+use Rattle.zones.specs.Numbers.{of_number}
 
 -- ---- what the numbers mean
 -- A bound is written as the bound and 1,000,001, and no bound as 0.
@@ -22,17 +24,12 @@ zone_in n xs i j = bound_of_code (number_at n xs i j)
 
 -- Rises, or falls, of the basins from 1 on; the datum does neither.
 abbrev pub rate_of : List ℕ → ℕ → ℕ
-rate_of rs zero = 0
-rate_of rs (suc i) = slice_index rs i
+rate_of rs i = of_number 0 rs i
 
 abbrev pub rates_in : List ℕ → List ℕ → Rates
 rates_in rise fall = record { rise = rate_of rise; fall = rate_of fall; datum = (refl, refl) }
 
 -- ---- what is refused
--- Numbers of another length than is needed.
-abbrev pub other_length : ℕ → List ℕ → Option Refusal
-other_length size xs = when (not (length xs == size)) (refuses.Length (length xs))
-
 -- The index of the first number above a limit.
 abbrev pub first_above : ℕ → List ℕ → Option ℕ
 first_above most xs = first_bad (λ v. nat_le v most) 0 xs
@@ -41,13 +38,12 @@ first_above most xs = first_bad (λ v. nat_le v most) 0 xs
 -- its basin; a fall above 10,000, by its basin and the number of basins; a number above 2,000,002, by its index.
 abbrev pub refused : ℕ → List ℕ → List ℕ → List ℕ → Option Refusal
 refused n rise fall xs =
-    or_else (when (nat_lt n 1 || nat_lt 8 n) refuses.Basins)
-    (or_else (other_length ((n + 1) * (n + 1)) xs)
-    (or_else (other_length n rise)
-    (or_else (other_length n fall)
+    or_else (size_refused n (length xs))
+    (or_else (length_refused n (length rise))
+    (or_else (length_refused n (length fall))
     (or_else (option_map (λ i. refuses.Rate (i + 1)) (first_above 10000 rise))
     (or_else (option_map (λ i. refuses.Rate (n + (i + 1))) (first_above 10000 fall))
-    (option_map refuses.ZoneNumber (first_above 2000002 xs)))))))
+    (option_map refuses.ZoneNumber (first_above 2000002 xs))))))
 
 -- No number is above a limit.
 abbrev pub AllWithin : ℕ → List ℕ → Type 0

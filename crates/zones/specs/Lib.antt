@@ -1,4 +1,5 @@
 pub mod Numbers
+pub mod Loan
 pub mod Checks
 pub mod Change
 pub mod Says

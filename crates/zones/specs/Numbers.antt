@@ -1,5 +1,5 @@
 -- Zones in lent numbers. Assumes nothing: these are definitions.
-use Rattle.std.specs.Prelude.{◌≡◌, ℕ, ◌+◌, ◌*◌, ◌^◌, ◌≤◌, Bool, true, false, cond, ◌⊎◌, List, replicate, ℤ, pos, negsuc, ◌==◌, int_lt, slice_index_or}
+use Rattle.std.specs.Prelude.{◌≡◌, ℕ, zero, suc, ◌+◌, ◌*◌, ◌^◌, ◌≤◌, Bool, true, false, cond, ◌⊎◌, List, replicate, ℤ, pos, negsuc, ◌==◌, int_lt, slice_index_or}
 use Rattle.theory.specs.Bound.{NoLarger}
 use Rattle.theory.specs.Zone.{Zone, Empty, SameLevels, Closed, Floored, Canonical}
 use Rattle.bounds.specs.Meaning.{bound_of, total_sum, Sized}
@@ -10,6 +10,11 @@ cell n xs i j = slice_index_or xs (i * (n + 1) + j) (pos 0)
 
 abbrev pub zone_of : ℕ → List ℤ → Zone
 zone_of n xs i j = bound_of (cell n xs i j)
+
+-- What a list of the basins' values says of number i: the datum's value is d, and a basin's is in the list.
+abbrev pub of_number : {A : Type 0} → A → List A → ℕ → A
+of_number d xs zero = d
+of_number d xs (suc i) = slice_index_or xs i d
 
 -- The numbers that stand for no levels: each number is below itself.
 abbrev pub no_levels : ℕ → List ℤ

@@ -1,7 +1,7 @@
 // The checks that come before a zone is touched, in the order of their numbers.
-ghost use Rattle.std.specs.Prelude.{◌≡◌, ◌<◌, ◌≤◌, length, None, Some, MatchOption, MatchResult};
-ghost use Rattle.refusal.specs.Order.{Found, first_bad};
-ghost use Rattle.zones.specs.Checks.{basins_refused, fall_ok, range_ok, range_refused, rate_refused, rise_ok};
+ghost use Rattle.std.specs.Prelude.{◌≡◌, ◌+◌, ◌*◌, ◌≤◌, length, None, MatchResult};
+ghost use Rattle.refusal.specs.Order.{Found};
+ghost use Rattle.zones.specs.Checks.{basins_refused, length_refused, range_ok, range_refused, rate_refused};
 ghost use Rattle.zones.specs.Checks.{ranges_refused, rates_refused, reading_refused, size_refused};
 
 use crate::kinds::{Range, Rate, Reading};
@@ -13,10 +13,10 @@ const MAX_BASINS: usize = 8;
 const MAX_START: u32 = 100_000;
 
 // No level rises or falls by more in a step.
-const MAX_RATE: u32 = 10_000;
+pub(crate) const MAX_RATE: u32 = 10_000;
 
 // No reading is past it either way.
-const MAX_READING: i64 = 1_000_000;
+pub const MAX_READING: i64 = 1_000_000;
 
 // So many basins are taken.
 pub fn check_basins(basins: usize) -> Result<(), Refusal>
@@ -28,66 +28,41 @@ pub fn check_basins(basins: usize) -> Result<(), Refusal>
     Ok(())
 }
 
-// A zone of `basins` basins has `length` numbers.
-pub(crate) fn check_size(basins: usize, length: usize) -> Result<(), Refusal>
-    ensures { MatchResult result (λ _. size_refused basins length ≡ None) (λ e. size_refused basins length ≡ Some e) }
+// There are as many as are needed.
+pub(crate) fn check_length(needed: usize, length: usize) -> Result<(), Refusal>
+    ensures { Found result (length_refused needed length) }
 {
-    check_basins(basins)?;
-    if length != (basins + 1) * (basins + 1) {
+    if length != needed {
         return Err(Refusal::Length(length as u64));
     }
     Ok(())
 }
 
-// The first range that is not in order.
-fn bad_range(ranges: &[Range]) -> Option<usize>
-    ensures first { result ≡ first_bad range_ok 0 ranges.now }
-    ensures within { MatchOption result Unit (λ i. i < length ranges.now) }
+// A zone of `basins` basins has `length` numbers.
+pub(crate) fn check_size(basins: usize, length: usize) -> Result<(), Refusal>
+    ensures found { Found result (size_refused basins length) }
+    ensures fits { MatchResult result (λ _. (basins ≤ 8) × (length ≡ (basins + 1) * (basins + 1))) (λ _. Unit) }
 {
-    for (i, range) in ranges.iter().enumerate() {
-        if range.least > range.most || range.most > MAX_START {
-            return Some(i);
-        }
-    }
-    None
+    check_basins(basins)?;
+    check_length((basins + 1) * (basins + 1), length)
 }
 
-// The first rise that is too large.
-fn bad_rise(rates: &[Rate]) -> Option<usize>
-    ensures first { result ≡ first_bad rise_ok 0 rates.now }
-    ensures within { MatchOption result Unit (λ i. i < length rates.now) }
-{
-    for (i, rate) in rates.iter().enumerate() {
-        if rate.rise > MAX_RATE {
-            return Some(i);
-        }
+impl Range {
+    // It does not end before it begins, nor too high.
+    fn is_ordered(&self) -> bool
+        ensures { result ≡ range_ok self.now }
+    {
+        self.least <= self.most && self.most <= MAX_START
     }
-    None
-}
-
-// The first fall that is too large.
-fn bad_fall(rates: &[Rate]) -> Option<usize>
-    ensures first { result ≡ first_bad fall_ok 0 rates.now }
-    ensures within { MatchOption result Unit (λ i. i < length rates.now) }
-{
-    for (i, rate) in rates.iter().enumerate() {
-        if rate.fall > MAX_RATE {
-            return Some(i);
-        }
-    }
-    None
 }
 
 // There is a range for each basin, and each is in order.
 pub(crate) fn check_ranges(basins: usize, ranges: &[Range]) -> Result<(), Refusal>
     requires { basins ≤ 8 }
-    ensures { MatchResult result (λ _. range_refused basins ranges.now ≡ None)
-        (λ e. range_refused basins ranges.now ≡ Some e) }
+    ensures { Found result (range_refused basins ranges.now) }
 {
-    if ranges.len() != basins {
-        return Err(Refusal::Length(ranges.len() as u64));
-    }
-    if let Some(i) = bad_range(ranges) {
+    check_length(basins, ranges.len())?;
+    if let Some(i) = ranges.iter().position(|range| !range.is_ordered()) {
         return Err(Refusal::Range(i as u32 + 1));
     }
     Ok(())
@@ -96,16 +71,13 @@ pub(crate) fn check_ranges(basins: usize, ranges: &[Range]) -> Result<(), Refusa
 // There are rates for each basin, and none is too large.
 pub(crate) fn check_rates(basins: usize, rates: &[Rate]) -> Result<(), Refusal>
     requires { basins ≤ 8 }
-    ensures { MatchResult result (λ _. rate_refused basins rates.now ≡ None)
-        (λ e. rate_refused basins rates.now ≡ Some e) }
+    ensures { Found result (rate_refused basins rates.now) }
 {
-    if rates.len() != basins {
-        return Err(Refusal::Length(rates.len() as u64));
-    }
-    if let Some(i) = bad_rise(rates) {
+    check_length(basins, rates.len())?;
+    if let Some(i) = rates.iter().position(|rate| rate.rise > MAX_RATE) {
         return Err(Refusal::Rate(i as u32 + 1));
     }
-    if let Some(i) = bad_fall(rates) {
+    if let Some(i) = rates.iter().position(|rate| rate.fall > MAX_RATE) {
         return Err(Refusal::Rate((basins + (i + 1)) as u32));
     }
     Ok(())
@@ -113,7 +85,7 @@ pub(crate) fn check_rates(basins: usize, rates: &[Rate]) -> Result<(), Refusal>
 
 // A reading is in order, within its limits, and of two different numbers of the zone.
 pub(crate) fn check_reading(basins: usize, reading: Reading) -> Result<(), Refusal>
-    ensures { MatchResult result (λ _. reading_refused basins reading ≡ None) (λ e. reading_refused basins reading ≡ Some e) }
+    ensures { Found result (reading_refused basins reading) }
 {
     if reading.low > reading.high {
         return Err(Refusal::LowAboveHigh);

@@ -1,15 +1,14 @@
 // A step in time of a zone that is lent by itself, in numbers without sign: a bound is written as the bound and 1,000,001,
 // and no bound as 0.
-ghost use Rattle.std.specs.Prelude.{◌≡◌, ◌+◌, ◌*◌, ◌<◌, ◌≤◌, length, Some, None, MatchOption, MatchResult};
-ghost use Rattle.zones.specs.Lent.{refused, first_above, AllWithin, rate_of, grown, smaller};
-ghost use Rattle.zones.specs.Lent.{Grown, FlooredBasin, FlooredAll, WidenedLent};
+ghost use Rattle.std.specs.Prelude.{◌≡◌, ◌≤◌, length, Some, None, MatchResult};
+ghost use Rattle.refusal.specs.Order.{Found};
+ghost use Rattle.zones.specs.Lent.{refused, AllWithin, grown_at, smaller, Grown, FlooredBasin, FlooredAll, WidenedLent};
+ghost use Rattle.zones.specs.Loan.{SameLoan};
 
+use crate::checks::{MAX_RATE, check_length, check_size};
+use crate::numbers::of_number;
+use crate::zone::Zone;
 use refusal::Refusal;
-
-const MAX_BASINS: u64 = 8;
-
-// No level rises or falls by more in a step.
-const MAX_RATE: u64 = 10_000;
 
 // The number of the largest bound that may be lent.
 const MAX_NUMBER: u64 = 2_000_002;
@@ -19,67 +18,39 @@ const NO_BOUND: u64 = 0;
 
 const ZERO_BOUND: u64 = 1_000_001;
 
-// The index of the first number that is above a limit.
-fn first_above(numbers: &[u64], most: u64) -> Option<usize>
-    ensures first { result ≡ first_above most numbers.now }
-    ensures within { MatchOption result Unit (λ i. i < length numbers.now) }
-{
-    for (i, number) in numbers.iter().enumerate() {
-        if *number > most {
-            return Some(i);
-        }
-    }
-    None
-}
-
 // The basins, the lengths, the rates and the numbers of a zone, in this order.
-fn check_lent(n: u64, rise: &[u64], fall: &[u64], zone: &[u64]) -> Result<(), Refusal>
-    ensures { MatchResult result
-        (λ _. refused n rise.now fall.now zone.now ≡ None)
-        (λ e. refused n rise.now fall.now zone.now ≡ Some e) }
+fn check_lent(basins: usize, rise: &[u64], fall: &[u64], zone: &[u64]) -> Result<(), Refusal>
+    ensures { Found result (refused basins rise.now fall.now zone.now) }
 {
-    if n < 1 || n > MAX_BASINS {
-        return Err(Refusal::Basins);
-    }
-    let size = (n + 1) * (n + 1);
-    if zone.len() as u64 != size {
-        return Err(Refusal::Length(zone.len() as u64));
-    }
-    if rise.len() as u64 != n {
-        return Err(Refusal::Length(rise.len() as u64));
-    }
-    if fall.len() as u64 != n {
-        return Err(Refusal::Length(fall.len() as u64));
-    }
-    if let Some(i) = first_above(rise, MAX_RATE) {
+    check_size(basins, zone.len())?;
+    check_length(basins, rise.len())?;
+    check_length(basins, fall.len())?;
+    if let Some(i) = rise.iter().position(|rate| *rate > u64::from(MAX_RATE)) {
         return Err(Refusal::Rate(i as u32 + 1));
     }
-    if let Some(i) = first_above(fall, MAX_RATE) {
-        return Err(Refusal::Rate(n as u32 + (i as u32 + 1)));
+    if let Some(i) = fall.iter().position(|rate| *rate > u64::from(MAX_RATE)) {
+        return Err(Refusal::Rate((basins + (i + 1)) as u32));
     }
-    if let Some(i) = first_above(zone, MAX_NUMBER) {
+    if let Some(i) = zone.iter().position(|number| *number > MAX_NUMBER) {
         return Err(Refusal::ZoneNumber(i as u64));
     }
     Ok(())
 }
 
-// The rise or the fall of number i: the datum does neither.
-fn rate(rates: &[u64], i: usize) -> u64
-    requires { i ≤ length rates.now }
-    ensures { result ≡ rate_of rates.now i }
+// What the bound of i over j becomes: between two different numbers it grows by the rise of the first and the fall of the
+// second, if it is one. The datum does neither.
+fn grown(rise: &[u64], fall: &[u64], i: usize, j: usize, bound: u64) -> u64
+    requires first { i ≤ length rise.now }
+    requires second { j ≤ length fall.now }
+    requires rises { AllWithin 10000 rise.now }
+    requires falls { AllWithin 10000 fall.now }
+    requires within { bound ≤ 2000002 }
+    ensures { result ≡ grown_at rise.now fall.now i j bound }
 {
-    if i == 0 { 0 } else { rates[i - 1] }
-}
-
-// A bound that has grown, if it is one.
-fn grow(bound: u64, by: u64) -> u64
-    requires { (bound ≤ 2000002) × (by ≤ 20000) }
-    ensures { result ≡ grown bound by }
-{
-    if bound == NO_BOUND {
-        NO_BOUND
+    if i == j || bound == NO_BOUND {
+        bound
     } else {
-        bound + by
+        bound + (of_number(rise, i, 0) + of_number(fall, j, 0))
     }
 }
 
@@ -96,62 +67,55 @@ fn smaller_of(a: u64, b: u64) -> u64
     }
 }
 
-// Each bound between two different numbers grows by the rise of the first and the fall of the second.
-fn grow_all(basins: usize, rise: &[u64], fall: &[u64], zone: &mut [u64])
-    requires size { (basins ≤ 8) × (length zone.old ≡ (basins + 1) * (basins + 1)) }
-    requires rates { (length rise.now ≡ basins) × (length fall.now ≡ basins) }
-    requires limits { (AllWithin 10000 rise.now) × ((AllWithin 10000 fall.now) × (AllWithin 2000002 zone.old)) }
-    ensures { Grown basins rise.now fall.now zone.old zone.new }
-{
-    let width = basins + 1;
-    for i in 0..width {
-        let rises = rate(rise, i);
-        for j in 0..width {
+impl Zone<'_, u64> {
+    // Each bound becomes what the rises and falls can make of it.
+    fn grow(&mut self, rise: &[u64], fall: &[u64])
+        requires rises_long { length rise.now ≡ self.old.basins }
+        requires falls_long { length fall.now ≡ self.old.basins }
+        requires rises { AllWithin 10000 rise.now }
+        requires falls { AllWithin 10000 fall.now }
+        requires numbers { AllWithin 2000002 self.old.numbers.now }
+        ensures lent { SameLoan self.old self.new }
+        ensures grown { Grown self.old.basins rise.now fall.now self.old.numbers.now self.new.numbers.now }
+    {
+        self.map(|i, j, bound| grown(rise, fall, i, j, bound));
+    }
+
+    // Where basin j could be below the datum: its lowest level is 0, and no level is above it by more than above the datum. A
+    // column: its numbers do not lie side by side.
+    fn floor_basin(&mut self, j: usize)
+        requires some { 1 ≤ j }
+        requires basin { j ≤ self.old.basins }
+        ensures lent { SameLoan self.old self.new }
+        ensures floored { FlooredBasin self.old.basins j self.old.numbers.now self.new.numbers.now }
+    {
+        let lowest = self.at(0, j);
+        if lowest != NO_BOUND && lowest <= ZERO_BOUND {
+            return;
+        }
+        for i in 1..self.basins + 1 {
             if i != j {
-                let falls = rate(fall, j);
-                let at = i * width + j;
-                let bound = zone[at];
-                zone[at] = grow(bound, rises + falls);
+                let bound = smaller_of(self.at(i, j), self.at(i, 0));
+                self.put(i, j, bound);
             }
         }
+        self.put(0, j, ZERO_BOUND);
     }
-}
 
-// Where basin j could be below the datum: its lowest level is 0, and no level is above it by more than above the datum.
-fn floor_basin(basins: usize, j: usize, zone: &mut [u64])
-    requires size { (basins ≤ 8) × (length zone.old ≡ (basins + 1) * (basins + 1)) }
-    requires basin { (1 ≤ j) × (j ≤ basins) }
-    ensures { FlooredBasin basins j zone.old zone.new }
-{
-    let lowest = zone[j];
-    if lowest != NO_BOUND && lowest <= ZERO_BOUND {
-        return;
-    }
-    let width = basins + 1;
-    for i in 1..width {
-        if i != j {
-            let at = i * width + j;
-            let bound = zone[at];
-            let over_datum = zone[i * width];
-            zone[at] = smaller_of(bound, over_datum);
+    // Takes away the levels below the datum. A basin's column needs no other's, and the bounds on the datum stay.
+    fn floor(&mut self)
+        ensures lent { SameLoan self.old self.new }
+        ensures floored { FlooredAll self.old.basins self.old.numbers.now self.new.numbers.now }
+    {
+        for j in 1..self.basins + 1 {
+            self.floor_basin(j);
         }
-    }
-    zone[j] = ZERO_BOUND;
-}
-
-// Takes away the levels below the datum. A basin's column needs no other's, and the bounds on the datum stay.
-fn floor_all(basins: usize, zone: &mut [u64])
-    requires { (basins ≤ 8) × (length zone.old ≡ (basins + 1) * (basins + 1)) }
-    ensures { FlooredAll basins zone.old zone.new }
-{
-    for j in 1..basins + 1 {
-        floor_basin(basins, j, zone);
     }
 }
 
 // A step in time: the level of each of n basins rises and falls by no more than it can, and none falls below the datum.
 // What is refused leaves the zone as it was. A bound that passes 1,000,001 is written all the same, and refused if it is
-// lent again.
+// lent again. The entry is lent its numbers from outside in this form: rises and falls in a list each.
 pub fn widen_zone(n: u64, rise: &[u64], fall: &[u64], zone: &mut [u64]) -> Result<(), Refusal>
     ensures { MatchResult result
         (λ _. (refused n rise.now fall.now zone.old ≡ None)
@@ -159,10 +123,14 @@ pub fn widen_zone(n: u64, rise: &[u64], fall: &[u64], zone: &mut [u64]) -> Resul
         (λ e. (refused n rise.now fall.now zone.old ≡ Some e)
         × (zone.new ≡ zone.old)) }
 {
-    check_lent(n, rise, fall, zone)?;
     let basins = n as usize;
-    grow_all(basins, rise, fall, zone);
-    floor_all(basins, zone);
+    check_lent(basins, rise, fall, zone)?;
+    let mut zone = Zone {
+        basins,
+        numbers: zone,
+    };
+    zone.grow(rise, fall);
+    zone.floor();
     Ok(())
 }
 
@@ -170,7 +138,6 @@ pub fn widen_zone(n: u64, rise: &[u64], fall: &[u64], zone: &mut [u64]) -> Resul
 #[cfg(test)]
 mod tests {
     use super::widen_zone;
-    use std::process::Abort;
     use std::test::Fail;
 
     // The number of the bound 0, and of none.
@@ -178,28 +145,11 @@ mod tests {
 
     const NONE: u64 = 0;
 
-    fn check_taken(n: u64, rise: &[u64], fall: &[u64], zone: &mut [u64]) -> Result<(), Fail> {
+    // The number and the place of what was refused.
+    fn refused(n: u64, rise: &[u64], fall: &[u64], zone: &mut [u64]) -> Option<(u8, u64)> {
         match widen_zone(n, rise, fall, zone) {
-            Ok(()) => Ok(()),
-            Err(_) => Err(Fail::new("refused")),
-        }
-    }
-
-    // Refused by this number at this place.
-    fn check_refused(
-        rt: &impl Abort,
-        n: u64,
-        rise: &[u64],
-        fall: &[u64],
-        zone: &mut [u64],
-        by: (u8, u64),
-    ) -> Result<(), Fail> {
-        match widen_zone(n, rise, fall, zone) {
-            Ok(()) => Err(Fail::new("taken")),
-            Err(refusal) => {
-                assert_eq!(rt; (refusal.number(), refusal.place()), by);
-                Ok(())
-            },
+            Ok(()) => None,
+            Err(refusal) => Some((refusal.number(), refusal.place())),
         }
     }
 
@@ -209,7 +159,7 @@ mod tests {
         const LENT: [u64; 9] = [Z, Z - 46, Z - 36, Z + 54, Z, Z + 14, Z + 44, Z - 6, Z];
         const LEFT: [u64; 9] = [Z, Z - 44, Z - 35, Z + 57, Z, Z + 18, Z + 48, Z, Z];
         let mut zone = LENT;
-        check_taken(2, &[3, 4], &[2, 1], &mut zone)?;
+        widen_zone(2, &[3, 4], &[2, 1], &mut zone)?;
         assert_eq!(rt; zone, LEFT);
         Ok(())
     }
@@ -220,7 +170,7 @@ mod tests {
         const LENT: [u64; 9] = [Z, Z - 1, Z - 3, Z + 5, Z, Z + 2, Z + 9, Z + 8, Z];
         const LEFT: [u64; 9] = [Z, Z, Z - 2, Z + 7, Z, Z + 5, Z + 10, Z + 10, Z];
         let mut zone = LENT;
-        check_taken(2, &[2, 1], &[4, 1], &mut zone)?;
+        widen_zone(2, &[2, 1], &[4, 1], &mut zone)?;
         assert_eq!(rt; zone, LEFT);
         Ok(())
     }
@@ -231,7 +181,7 @@ mod tests {
         const LENT: [u64; 9] = [Z, Z - 1, Z - 3, Z + 5, Z, Z + 2, NONE, NONE, Z];
         const LEFT: [u64; 9] = [Z, Z, Z - 2, Z + 7, Z, Z + 5, NONE, NONE, Z];
         let mut zone = LENT;
-        check_taken(2, &[2, 1], &[4, 1], &mut zone)?;
+        widen_zone(2, &[2, 1], &[4, 1], &mut zone)?;
         assert_eq!(rt; zone, LEFT);
         Ok(())
     }
@@ -242,7 +192,7 @@ mod tests {
         const LENT: [u64; 9] = [Z, Z - 4, Z - 1, Z + 20, Z, Z + 30, Z + 20, Z + 30, Z];
         const LEFT: [u64; 9] = [Z, Z, Z, Z + 20, Z, Z + 20, Z + 20, Z + 34, Z];
         let mut zone = LENT;
-        check_taken(2, &[0, 0], &[4, 2], &mut zone)?;
+        widen_zone(2, &[0, 0], &[4, 2], &mut zone)?;
         assert_eq!(rt; zone, LEFT);
         Ok(())
     }
@@ -251,7 +201,7 @@ mod tests {
     #[test]
     fn a_number_on_itself_stays(rt: HostRuntime) -> Result<(), Fail> {
         let mut zone = [NONE, NONE, 7, 2_000_002];
-        check_taken(1, &[3], &[10], &mut zone)?;
+        widen_zone(1, &[3], &[10], &mut zone)?;
         assert_eq!(rt; zone, [NONE, Z, 10, 2_000_002]);
         Ok(())
     }
@@ -260,34 +210,32 @@ mod tests {
     #[test]
     fn a_bound_may_pass_the_largest(rt: HostRuntime) -> Result<(), Fail> {
         let mut zone = [Z, Z, 2_000_002, Z];
-        check_taken(1, &[10_000], &[10_000], &mut zone)?;
+        widen_zone(1, &[10_000], &[10_000], &mut zone)?;
         assert_eq!(rt; zone, [Z, Z, 2_010_002, Z]);
-        check_refused(&rt, 1, &[0], &[0], &mut zone, (5, 2))?;
+        assert_eq!(rt; refused(1, &[0], &[0], &mut zone), Some((5, 2)));
         assert_eq!(rt; zone, [Z, Z, 2_010_002, Z]);
         Ok(())
     }
 
     #[test]
-    fn basins_come_before_lengths(rt: HostRuntime) -> Result<(), Fail> {
+    fn basins_come_before_lengths(rt: HostRuntime) {
         let mut zone = [9_000_000; 5];
-        check_refused(&rt, 0, &[], &[], &mut zone, (1, 0))?;
-        check_refused(&rt, 9, &[], &[], &mut zone, (1, 0))?;
-        check_refused(&rt, 1, &[], &[0, 0], &mut zone, (3, 5))?;
+        assert_eq!(rt; refused(0, &[], &[], &mut zone), Some((1, 0)));
+        assert_eq!(rt; refused(9, &[], &[], &mut zone), Some((1, 0)));
+        assert_eq!(rt; refused(1, &[], &[0, 0], &mut zone), Some((3, 5)));
         assert_eq!(rt; zone, [9_000_000; 5]);
-        Ok(())
     }
 
     #[test]
-    fn lengths_come_before_rates(rt: HostRuntime) -> Result<(), Fail> {
+    fn lengths_come_before_rates(rt: HostRuntime) {
         let mut zone = [9_000_000; 4];
-        check_refused(&rt, 1, &[], &[0, 0], &mut zone, (3, 0))?;
-        check_refused(&rt, 1, &[10_001], &[0, 0], &mut zone, (3, 2))?;
+        assert_eq!(rt; refused(1, &[], &[0, 0], &mut zone), Some((3, 0)));
+        assert_eq!(rt; refused(1, &[10_001], &[0, 0], &mut zone), Some((3, 2)));
         assert_eq!(rt; zone, [9_000_000; 4]);
-        Ok(())
     }
 
     #[test]
-    fn rates_come_before_numbers(rt: HostRuntime) -> Result<(), Fail> {
+    fn rates_come_before_numbers(rt: HostRuntime) {
         const LENT: [u64; 9] = [Z, Z, Z, 2_000_003, Z, Z, Z, 2_000_003, Z];
         let cases = [
             ([10_000, 10_001], [10_001, 0], (4, 2)),
@@ -297,9 +245,8 @@ mod tests {
         ];
         for (rise, fall, by) in cases {
             let mut zone = LENT;
-            check_refused(&rt, 2, &rise, &fall, &mut zone, by)?;
+            assert_eq!(rt; refused(2, &rise, &fall, &mut zone), Some(by));
             assert_eq!(rt; zone, LENT);
         }
-        Ok(())
     }
 }

@@ -9,12 +9,14 @@ mod checks;
 mod first;
 mod kinds;
 mod lent;
+mod numbers;
 mod readings;
 mod steps;
 mod turns;
 mod whole;
+mod zone;
 
-pub use checks::{check_basin_ranges, check_basin_rates, check_basins};
+pub use checks::{MAX_READING, check_basin_ranges, check_basin_rates, check_basins};
 pub use first::set_first;
 pub use kinds::{Range, Rate, Reading};
 pub use lent::widen_zone;
@@ -27,7 +29,6 @@ pub use whole::{close, is_empty, sizes_stand};
 mod tests {
     use super::*;
     use refusal::Refusal;
-    use std::process::Abort;
     use std::test::Fail;
 
     const RANGES: [Range; 2] = [
@@ -52,29 +53,11 @@ mod tests {
         }
     }
 
-    fn check_zone(rt: &impl Abort, zone: &[i64], expected: &[i64]) -> Result<(), Fail> {
-        assert_eq!(rt; zone.len(), expected.len());
-        for (number, wanted) in zone.iter().zip(expected) {
-            assert_eq!(rt; *number, *wanted);
-        }
-        Ok(())
-    }
-
-    // What was refused, and that the zone is as it was.
-    fn check_refused(
-        rt: &impl Abort,
-        res: Result<(), Refusal>,
-        number: u8,
-        place: u64,
-        zone: &[i64],
-    ) -> Result<(), Fail> {
-        match res {
-            Ok(()) => Err(Fail::new("taken")),
-            Err(refusal) => {
-                assert_eq!(rt; refusal.number(), number);
-                assert_eq!(rt; refusal.place(), place);
-                check_zone(rt, zone, &[7; 9])
-            }
+    // The number and the place of what was refused.
+    fn refused(answer: Result<(), Refusal>) -> Option<(u8, u64)> {
+        match answer {
+            Ok(()) => None,
+            Err(refusal) => Some((refusal.number(), refusal.place())),
         }
     }
 
@@ -84,10 +67,11 @@ mod tests {
     fn a_reading_sharpens_through_a_third_number(rt: HostRuntime) -> Result<(), Fail> {
         let mut zone = [7; 9];
         set_first(2, &RANGES, &mut zone)?;
-        check_zone(&rt, &zone, &[0, 0, 0, 100, 0, 100, 100, 100, 0])?;
+        assert_eq!(rt; zone, [0, 0, 0, 100, 0, 100, 100, 100, 0]);
         meet(2, reading(2, 0, 38, 42), &mut zone)?;
         meet(2, reading(1, 2, 8, 12), &mut zone)?;
-        check_zone(&rt, &zone, &[0, -46, -38, 54, 0, 12, 42, -8, 0])
+        assert_eq!(rt; zone, [0, -46, -38, 54, 0, 12, 42, -8, 0]);
+        Ok(())
     }
 
     // The step keeps what the gauges said of the difference: 3 to 17. A program that keeps only each basin's span would say -1 to 21.
@@ -95,7 +79,8 @@ mod tests {
     fn a_step_keeps_the_difference(rt: HostRuntime) -> Result<(), Fail> {
         let mut zone = [0, -46, -38, 54, 0, 12, 42, -8, 0];
         step(2, &RATES, &mut zone)?;
-        check_zone(&rt, &zone, &[0, -44, -36, 57, 0, 17, 45, -3, 0])
+        assert_eq!(rt; zone, [0, -44, -36, 57, 0, 17, 45, -3, 0]);
+        Ok(())
     }
 
     // Basin 2 is 3 above basin 1, which is 0 to 10: so it is 3 to 13, though its own bounds say 0 to 100, and a step leads to 1
@@ -104,7 +89,8 @@ mod tests {
     fn a_step_from_bounds_that_are_not_closed(rt: HostRuntime) -> Result<(), Fail> {
         let mut zone = [0, 0, 0, 10, 0, -3, 100, 3, 0];
         step(2, &RATES, &mut zone)?;
-        check_zone(&rt, &zone, &[0, 0, -1, 13, 0, 2, 16, 8, 0])
+        assert_eq!(rt; zone, [0, 0, -1, 13, 0, 2, 16, 8, 0]);
+        Ok(())
     }
 
     // Basin 2 is at most 3, and at least 10 above basin 1: there are no levels. A program that closes only after the step finds
@@ -113,7 +99,8 @@ mod tests {
     fn a_step_from_bounds_without_levels(rt: HostRuntime) -> Result<(), Fail> {
         let mut zone = [0, 0, 0, 5, 0, -10, 3, bounds::NONE, 0];
         step(2, &RATES, &mut zone)?;
-        check_zone(&rt, &zone, &[-1; 9])
+        assert_eq!(rt; zone, [-1; 9]);
+        Ok(())
     }
 
     // Both basins are 0 to 5 and equal; they rise by 3 and fall by 10. With levels below 0 left in, the difference would be 13.
@@ -122,7 +109,8 @@ mod tests {
         let rates = [Rate { rise: 3, fall: 10 }, Rate { rise: 3, fall: 10 }];
         let mut zone = [0, 0, 0, 5, 0, 0, 5, 0, 0];
         step(2, &rates, &mut zone)?;
-        check_zone(&rt, &zone, &[0, 0, 0, 8, 0, 8, 8, 8, 0])
+        assert_eq!(rt; zone, [0, 0, 0, 8, 0, 8, 8, 8, 0]);
+        Ok(())
     }
 
     // 10 to 20 and 30 to 40 of one basin: no levels, and none after any event.
@@ -134,11 +122,12 @@ mod tests {
         assert!(rt; !is_empty(2, &zone)?);
         meet(2, reading(1, 0, 30, 40), &mut zone)?;
         assert!(rt; is_empty(2, &zone)?);
-        check_zone(&rt, &zone, &[-1; 9])?;
+        assert_eq!(rt; zone, [-1; 9]);
         step(2, &RATES, &mut zone)?;
-        check_zone(&rt, &zone, &[-1; 9])?;
+        assert_eq!(rt; zone, [-1; 9]);
         meet(2, reading(2, 0, 0, 100), &mut zone)?;
-        check_zone(&rt, &zone, &[-1; 9])
+        assert_eq!(rt; zone, [-1; 9]);
+        Ok(())
     }
 
     // A number above itself is made 0, a level has its floor, and an open end stays open.
@@ -147,97 +136,87 @@ mod tests {
         let open = bounds::NONE;
         let mut zone = [5, 4, open, open, 3, -6, 9, open, 0];
         close(2, &mut zone)?;
-        check_zone(&rt, &zone, &[0, 0, -6, 3, 0, -6, 9, 9, 0])?;
+        assert_eq!(rt; zone, [0, 0, -6, 3, 0, -6, 9, 9, 0]);
         let mut below = [0, 0, 0, 1, -1, 0, 1, 0, 0];
         close(2, &mut below)?;
-        check_zone(&rt, &below, &[-1; 9])
+        assert_eq!(rt; below, [-1; 9]);
+        Ok(())
     }
 
     #[test]
-    fn sizes_are_refused(rt: HostRuntime) -> Result<(), Fail> {
+    fn sizes_are_refused(rt: HostRuntime) {
         let mut zone = [7; 9];
-        check_refused(&rt, close(0, &mut zone), 1, 0, &zone)?;
-        check_refused(&rt, close(9, &mut zone), 1, 0, &zone)?;
-        check_refused(&rt, close(3, &mut zone), 3, 9, &zone)?;
-        check_refused(&rt, set_first(2, &RANGES[0..1], &mut zone), 3, 1, &zone)?;
-        check_refused(&rt, step(2, &RATES[0..1], &mut zone), 3, 1, &zone)
+        assert_eq!(rt; refused(close(0, &mut zone)), Some((1, 0)));
+        assert_eq!(rt; refused(close(9, &mut zone)), Some((1, 0)));
+        assert_eq!(rt; refused(close(3, &mut zone)), Some((3, 9)));
+        assert_eq!(rt;
+            refused(set_first(2, &RANGES[0..1], &mut zone)),
+            Some((3, 1))
+        );
+        assert_eq!(rt; refused(step(2, &RATES[0..1], &mut zone)), Some((3, 1)));
+        assert_eq!(rt; zone, [7; 9]);
     }
 
     #[test]
-    fn rates_and_ranges_are_refused(rt: HostRuntime) -> Result<(), Fail> {
+    fn rates_and_ranges_are_refused(rt: HostRuntime) {
         let mut zone = [7; 9];
         let still = Rate { rise: 0, fall: 0 };
         let steep = Rate {
             rise: 10_001,
             fall: 10_001,
         };
-        check_refused(&rt, step(2, &[still, steep], &mut zone), 4, 2, &zone)?;
-        check_refused(
-            &rt,
-            step(
-                2,
-                &[
-                    Rate {
-                        rise: 10_000,
-                        fall: 10_001,
-                    },
-                    still,
-                ],
-                &mut zone,
-            ),
-            4,
-            3,
-            &zone,
-        )?;
+        let falling = Rate {
+            rise: 10_000,
+            fall: 10_001,
+        };
+        assert_eq!(rt; refused(step(2, &[still, steep], &mut zone)), Some((4, 2)));
+        assert_eq!(rt;
+            refused(step(2, &[falling, still], &mut zone)),
+            Some((4, 3))
+        );
         let fine = Range {
             least: 0,
             most: 100_000,
         };
-        check_refused(
-            &rt,
-            set_first(2, &[fine, Range { least: 2, most: 1 }], &mut zone),
-            6,
-            2,
-            &zone,
-        )?;
-        check_refused(
-            &rt,
-            set_first(
-                2,
-                &[
-                    Range {
-                        least: 0,
-                        most: 100_001,
-                    },
-                    fine,
-                ],
-                &mut zone,
-            ),
-            6,
-            1,
-            &zone,
-        )
+        let high = Range {
+            least: 0,
+            most: 100_001,
+        };
+        let crossed = Range { least: 2, most: 1 };
+        assert_eq!(rt;
+            refused(set_first(2, &[fine, crossed], &mut zone)),
+            Some((6, 2))
+        );
+        assert_eq!(rt;
+            refused(set_first(2, &[high, fine], &mut zone)),
+            Some((6, 1))
+        );
+        assert_eq!(rt; zone, [7; 9]);
     }
 
     #[test]
-    fn readings_are_refused(rt: HostRuntime) -> Result<(), Fail> {
+    fn readings_are_refused(rt: HostRuntime) {
         let mut zone = [7; 9];
-        check_refused(&rt, meet(2, reading(1, 0, 2, 1), &mut zone), 9, 0, &zone)?;
-        check_refused(
-            &rt,
-            meet(2, reading(1, 0, -1_000_001, 0), &mut zone),
-            9,
-            1,
-            &zone,
-        )?;
-        check_refused(
-            &rt,
-            meet(2, reading(1, 0, 0, 1_000_001), &mut zone),
-            9,
-            1,
-            &zone,
-        )?;
-        check_refused(&rt, meet(2, reading(3, 0, 0, 1), &mut zone), 10, 0, &zone)?;
-        check_refused(&rt, meet(2, reading(1, 1, 0, 1), &mut zone), 10, 1, &zone)
+        assert_eq!(rt;
+            refused(meet(2, reading(1, 0, 2, 1), &mut zone)),
+            Some((9, 0))
+        );
+        assert_eq!(rt;
+            refused(meet(2, reading(1, 0, -1_000_001, 0), &mut zone)),
+            Some((9, 1))
+        );
+        assert_eq!(rt;
+            refused(meet(2, reading(1, 0, 0, 1_000_001), &mut zone)),
+            Some((9, 1))
+        );
+        assert_eq!(rt;
+            refused(meet(2, reading(3, 0, 0, 1), &mut zone)),
+            Some((10, 0))
+        );
+        assert_eq!(rt;
+            refused(meet(2, reading(1, 1, 0, 1), &mut zone)),
+            Some((10, 1))
+        );
+        assert_eq!(rt; zone, [7; 9]);
     }
 }

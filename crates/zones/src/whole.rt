@@ -3,7 +3,7 @@ ghost use Rattle.zones.specs.Run.{SizesHold};
 ghost use Rattle.zones.specs.Says.{CloseSays, CloseSaysFar, EmptySays};
 
 use crate::checks::check_size;
-use crate::turns::close_square;
+use crate::zone::Zone;
 use refusal::Refusal;
 
 // Brings a zone into the one form in which zones are kept, with the same levels.
@@ -12,7 +12,11 @@ pub fn close(basins: usize, zone: &mut [i64]) -> Result<(), Refusal>
     ensures far { CloseSaysFar basins zone.old result zone.new }
 {
     check_size(basins, zone.len())?;
-    close_square(basins, zone);
+    let mut zone = Zone {
+        basins,
+        numbers: zone,
+    };
+    zone.close();
     Ok(())
 }
 
@@ -26,8 +30,6 @@ pub fn is_empty(basins: usize, zone: &[i64]) -> Result<bool, Refusal>
 }
 
 // Over a million steps and any readings no number of a zone becomes so large that a step or a reading is not exact.
-pub fn sizes_stand() -> u8
+pub fn sizes_stand()
     ensures { SizesHold }
-{
-    0
-}
+{}

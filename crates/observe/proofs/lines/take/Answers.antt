@@ -1,5 +1,5 @@
 use Rattle.std.proofs.Common.{Ok, Option, sym, subst}
-use Rattle.entries.specs.declared.entry.Entry.{Entry}
+use Rattle.text.specs.declared.entry.Entry.{Entry}
 use Rattle.observe.specs.declared.counts.Counts.{Counts}
 use Rattle.observe.specs.Followed.{Answered, Entered, one_more}
 use Rattle.observe.proofs.lines.take.Goals as goal

@@ -1,22 +1,12 @@
-use Rattle.std.proofs.Common.{arith}
-use Rattle.std.proofs.lemmas.Bool.Decides.{nat_tests}
-use Rattle.table.proofs.Parting.{part_within}
-use Rattle.shown.proofs.Counting.{all_more}
+use Rattle.std.proofs.Common.{length, vec_items, sym, ◌∙◌, rules, tests}
+use Rattle.std.proofs.lemmas.Iterator.Search.{all_from_yields_List}
+use Rattle.shown.specs.Computed.{lacks_levels}
+use Rattle.shown.proofs.Zones.{YieldsList-from_zones, all_without_listed}
 use Rattle.shown.proofs.tops.all_without.Goals as goal
-use Rattle.shown.proofs.tops.all_without.Goals.{then-none, else-none}
 
-pub without_levels-none-requires : goal.without_levels-none-requires
-without_levels-none-requires c = record {
-  few = c.requires.few;
-  there = part_within c.args.basins c.loop-place.place c.args.sets _ c.loop-place-test.true c.requires.whole;
-}
-
-pub loop-place-preserved : goal.loop-place-preserved
-loop-place-preserved c =
-    let more = all_more c.args.basins c.args.table.now c.loop-place.place in
-    let so_far = c.loop-place.invariant in
-    elim c.if-none.branch [
-      | then-none w ↦
-          let is = w.none-is in let e = w.without_levels-none.ensures in let t = w.if-none.true in grind (arith, nat_tests)
-      | else-none w ↦ let is = w.none-is in let t = w.if-none.false in grind (arith, nat_tests)
-    ]
+pub returns : goal.returns
+returns c =
+    let o = c.args.observer.now in
+    all_from_yields_List lacks_levels _ _ _ c.all.ensures.ran (YieldsList-from_zones o c.zones.ensures.rest c.zones.ensures.size)
+    (λ x b q k. search (rules, tests))
+    ∙ sym (all_without_listed o.plant.basins (length (vec_items o.sets)) (vec_items o.table))

@@ -1,26 +1,19 @@
-use Rattle.std.proofs.Common.{sym, ap, ◌∙◌}
-use Rattle.faults.specs.declared.set.FaultSet.{FaultSet}
-use Rattle.faults.specs.Sets.{gauge_set}
-use Rattle.table.proofs.Parting.{part_within}
-use Rattle.shown.proofs.Counting.{in_each_more, met_with, passed_over}
+use Rattle.std.proofs.Common.{not, vec_items, rules, tests}
+use Rattle.std.specs.List.{filter, zip}
+use Rattle.std.proofs.lemmas.Iterator.{YieldsList-from_slice, YieldsList-from_zip}
+use Rattle.std.proofs.lemmas.Iterator.Consumers.{YieldsList-from_filter, YieldsList-at}
+use Rattle.shown.specs.Computed.{lacks_levels}
+use Rattle.shown.proofs.Zones.{Pair, Met, zones_of, YieldsList-from_zones, met_from_yields_List, met_all}
 use Rattle.shown.proofs.tops.in_each.Goals as goal
-use Rattle.shown.proofs.tops.in_each.Goals.{then-not-without_levels, else-not-without_levels}
 
-pub without_levels-requires : goal.without_levels-requires
-without_levels-requires c = record {
-  few = c.requires.few;
-  there = part_within c.args.basins c.loop-place.place _ _ c.loop-place-test.true c.requires.whole;
-}
-
-pub loop-place-preserved : goal.loop-place-preserved
-loop-place-preserved c a =
-    let more = in_each_more c.args.basins c.args.sets.now c.args.table.now a c.loop-place.place in
-    let so_far = c.loop-place.invariant a in
-    let e = c.without_levels.ensures in
-    elim c.if-not-without_levels.branch [
-      | then-not-without_levels w ↦
-          ap (λ (v : FaultSet). gauge_set v a) w.common-is
-          ∙ met_with _ _ _ _ _ _ _ (w.intersect-common.ensures a) so_far more (sym e ∙ w.if-not-without_levels.true)
-      | else-not-without_levels w ↦
-          ap (λ (v : FaultSet). gauge_set v a) w.common-is ∙ passed_over _ _ _ _ _ _ so_far more (sym e ∙ w.if-not-without_levels.false)
-    ]
+pub returns : goal.returns
+returns c =
+    let o = c.args.observer.now in
+    let pairs = YieldsList-from_zip (YieldsList-at c.zip.ensures.first (YieldsList-from_slice (vec_items o.sets) cc))
+    (YieldsList-at c.zip.ensures.second (YieldsList-from_zones o c.zones.ensures.rest c.zones.ensures.size)) in
+    let with_levels : Met o.in_play (filter (λ (p : Pair). not (lacks_levels p.1)) (zip (vec_items o.sets) (zones_of o))) c.fold.result =
+    met_from_yields_List _ o.in_play c.all.result c.fold.result c.fold.ensures.ran
+    (YieldsList-from_filter _ (λ (p : Pair). not (lacks_levels p.1)) (YieldsList-at c.filter.ensures.source pairs)
+    c.filter.ensures.closure (λ x r q k. search (rules, tests)))
+    (λ r x s q k. search rules) c.all.ensures in
+    met_all o c.fold.result with_levels

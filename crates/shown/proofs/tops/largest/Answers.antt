@@ -1,48 +1,22 @@
-use Rattle.std.proofs.Common.{◌≡◌, true, false, ℤ, Some, Option, sym, ◌∙◌, ap₂, arith, w64, SFits, rules}
-use Rattle.std.proofs.lemmas.Bool.Decides.{nat_tests}
-use Rattle.std.proofs.lemmas.Int.{to_z-of_z}
-use Rattle.zones.specs.Numbers.{cell}
-use Rattle.table.specs.Parts.{part}
-use Rattle.table.proofs.Parting.{part_within}
-use Rattle.shown.specs.Computed.{larger, largest, without_levels}
-use Rattle.shown.proofs.Counting.{largest_more, largest_skip}
+use Rattle.std.proofs.Common.{not, length, vec_items, sym, ◌∙◌, arith, rules, tests}
+use Rattle.std.proofs.lemmas.Iterator.{YieldsList-from_map}
+use Rattle.std.proofs.lemmas.Iterator.Consumers.{YieldsList-from_filter, YieldsList-at, reduce_from_yields_List}
+use Rattle.std.proofs.lemmas.Int.{ints}
+use Rattle.std.specs.Int.{int_max}
+use Rattle.shown.specs.Computed.{lacks_levels}
+use Rattle.shown.proofs.Zones.{YieldsList-from_zones, number, largest_listed, reduce_same}
 use Rattle.shown.proofs.tops.largest.Goals as goal
-use Rattle.shown.proofs.tops.largest.Goals.{then-not-without_levels, else-not-without_levels}
 
-pub without_levels-requires : goal.without_levels-requires
-without_levels-requires c = record {
-  few = c.requires.few;
-  there = part_within c.args.basins c.loop-place.place c.args.sets _ c.loop-place-test.true c.requires.whole;
-}
-
-pub number_at-number-requires : goal.number_at-number-requires
-number_at-number-requires c = record {
-  few = c.requires.few;
-  there = part_within c.args.basins c.loop-place.place c.args.sets _ c.loop-place-test.true c.requires.whole;
-  within = c.requires.within;
-}
-
-pub loop-place-preserved : goal.loop-place-preserved
-loop-place-preserved c =
-    let n = c.args.basins in
-    let xs = c.args.table.now in
+pub returns : goal.returns
+returns c =
+    let o = c.args.observer.now in
     let i = c.args.first in
     let j = c.args.second in
-    let k = c.loop-place.place in
-    elim c.if-not-without_levels.branch [
-      | then-not-without_levels w ↦
-          let levels : without_levels n xs k ≡ false =
-          let t = w.if-not-without_levels.true in let e = c.without_levels.ensures in grind (arith, nat_tests) in
-          let number : ℤ = cell n (part n k xs) i j in
-          let so_far : Option ℤ = largest n xs i j k in
-          let fits : SFits w64 w.number_at-number.result = search rules in
-          let found : w.larger-best.result ≡ larger c.loop-place.best (Some w.number_at-number.result) =
-          simp to_z-of_z at w.larger-best.ensures in
-          w.best-is ∙ found
-          ∙ ap₂ (λ (o : Option ℤ) (v : ℤ). larger o (Some v)) c.loop-place.invariant w.number_at-number.ensures
-          ∙ sym (largest_more n xs i j k levels)
-      | else-not-without_levels w ↦
-          let none : without_levels n xs k ≡ true =
-          let t = w.if-not-without_levels.false in let e = c.without_levels.ensures in grind (arith, nat_tests) in
-          w.best-is ∙ c.loop-place.invariant ∙ sym (largest_skip n xs i j k none)
-    ]
+    reduce_from_yields_List _ _ c.max.result c.max.ensures.ran
+    (YieldsList-from_map _ (number o.plant.basins i j) (YieldsList-at c.map.ensures.source
+    (YieldsList-from_filter _ (λ zone. not (lacks_levels zone)) (YieldsList-at c.filter.ensures.source
+    (YieldsList-from_zones o c.zones.ensures.rest c.zones.ensures.size))
+    c.filter.ensures.closure (λ x r q k. search (rules, tests))))
+    c.map.ensures.closure (λ x r q k. search (rules, tests)))
+    ∙ reduce_same _ int_max (λ a b. grind (arith, ints)) _
+    ∙ sym (largest_listed o.plant.basins i j (length (vec_items o.sets)) (vec_items o.table))

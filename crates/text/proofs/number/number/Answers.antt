@@ -1,11 +1,8 @@
-use Rattle.std.proofs.Common.{sym, refl, inr}
-use Rattle.text.proofs.Values.{number_taken, number_refused}
+use Rattle.std.proofs.Common.{sym, rules}
+use Rattle.text.proofs.Values.{number_read}
 use Rattle.text.proofs.number.number.Goals as goal
 
-pub returns-in-Ok : goal.returns-in-Ok
-returns-in-Ok c = number_taken c.args.word.now _ _ c.parse.ensures.value.0 (sym c.if-not-is_numeral.ensures) c.in-Ok.is
-
-pub returns-in-Err : goal.returns-in-Err
-returns-in-Err c =
-    let n = sym c.if-not-is_numeral.ensures in
-    inr (n, number_refused c.args.word.now _ _ c.parse.ensures.value.0 n c.in-Err.is, refl)
+pub returns : goal.returns
+returns c =
+    number_read c.args.word.now c.args.field c.parse.result c.map_err.result c.parse.ensures.value.0
+    (sym c.if-not-is_numeral.ensures) c.map_err.ensures.cases (λ e x h. search rules)

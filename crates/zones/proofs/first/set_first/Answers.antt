@@ -1,18 +1,16 @@
-use Rattle.std.proofs.Common.{length}
+use Rattle.std.proofs.Common.{length, pos, rules}
 use Rattle.zones.specs.Checks.{size_refused, range_refused}
+use Rattle.zones.specs.Numbers.{cell}
 use Rattle.refusal.proofs.Orders.{neither}
-use Rattle.zones.proofs.Checked.{size_ok}
+use Rattle.zones.proofs.Starting.{starts}
 use Rattle.zones.proofs.first.set_first.Goals as goal
 
-pub fill-requires : goal.fill-requires
-fill-requires c =
-    let ok = size_ok c.args.basins (length c.args.zone.now) c.in_ok-check_size.ensures in
-    record { size = (ok.1, ok.2); checked = c.in_ok-check_ranges.ensures }
-
 pub returns : goal.returns
+unfolding cell
 returns c = (
   neither (size_refused c.args.basins (length c.args.zone.now))
-      (range_refused c.args.basins c.args.ranges.now) c.in_ok-check_size.ensures
+      (range_refused c.args.basins c.args.ranges.now) c.in_ok-check_size.ensures.found
       c.in_ok-check_ranges.ensures,
-  c.fill.ensures,
+  starts c.args.basins c.args.ranges.now _ c.in_ok-check_ranges.ensures
+      (λ i j hi hj. let k = c.map.ensures.each i j hi hj (pos 0) in search rules),
 )

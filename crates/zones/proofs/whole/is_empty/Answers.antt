@@ -9,7 +9,7 @@ pub returns : goal.returns
 unfolding cell
 returns c =
     let own : SFits w64 (get_or c.args.zone.now 0 (pos 0)) = search rules in (
-      c.in_ok-check_size.ensures,
+      c.in_ok-check_size.ensures.found,
       tells_empty c.args.basins c.args.zone.now _
           (ap (λ v. lt_z v (pos 0)) (to_z-of_z w64 _ own ∙ ap (λ p. get_or c.args.zone.now p (pos 0)) (omega arith))),
     )

@@ -1,4 +1,0 @@
-pub mod Splits
-pub mod Values
-pub mod Steps
-pub mod Readings

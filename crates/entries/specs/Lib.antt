@@ -1,7 +1,0 @@
-pub mod Words
-pub mod Numbers
-pub mod Faults
-pub mod Reader
-pub mod Spelling
-pub mod Kinds
-pub mod Lines

@@ -1,9 +1,0 @@
-use Rattle.std.proofs.Common.{pos, ap, ◌∙◌, w64, SFits, rules}
-use Rattle.std.proofs.lemmas.Int.{to_z-of_z}
-use Rattle.zones.proofs.Starting.{least_at}
-use Rattle.zones.proofs.first.least_of.Goals as goal
-
-pub returns : goal.returns
-returns c =
-    let r : SFits w64 c.from.result = search rules in
-    to_z-of_z w64 _ r ∙ c.from.ensures ∙ ap pos (least_at c.args.ranges.now c.args.number c.if-number-eq0.false)
