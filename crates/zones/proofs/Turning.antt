@@ -11,7 +11,7 @@ use Rattle.std.proofs.lemmas.Bool.{cases_lt, true≢false, false≢true}
 use Rattle.theory.specs.Bound.{Bound, Holds, NoLarger, sum, sharper, zero_bound}
 use Rattle.theory.specs.Level.{Levels, difference}
 use Rattle.theory.specs.Zone.{Zone, In, SameLevels, relax}
-use Rattle.theory.proofs.Bounds.{difference_same, no_larger_refl, no_larger_trans, no_larger_of, holds_larger, sharper_left}
+use Rattle.theory.proofs.Bounds.{difference_same, no_larger_trans, no_larger_of, holds_larger, sharper_left}
 use Rattle.theory.proofs.Bounds.{of_sharper}
 use Rattle.theory.proofs.Close.{Through, turn_through, sum_holds}
 use Rattle.theory.proofs.Meet.{in_larger}
@@ -33,9 +33,6 @@ pub record Turned (n k lo hi : ℕ) (z y : Zone) : Type 0 where
   pub done : (a b : ℕ) → a ≤ n → b ≤ n → lo ≤ place n a b → place n a b < hi → y a b ≡ turn z k a b
   pub before : (a b : ℕ) → a ≤ n → b ≤ n → place n a b < lo → y a b ≡ z a b
   pub after : (a b : ℕ) → a ≤ n → b ≤ n → hi ≤ place n a b → y a b ≡ z a b
-
-pub turned_none : (n k p : ℕ) (z : Zone) → Turned n k p p z z
-turned_none n k p z = record { done = λ a b _ _ l h. absurd (omega arith); before = λ a b _ _ _. refl; after = λ a b _ _ _. refl }
 
 -- a sum with 0 makes nothing sharper
 column_stays : (b : Bound) → sharper b (rounded (sum b zero_bound)) ≡ b
@@ -180,15 +177,6 @@ pub record Begun (n k : ℕ) (xs ys : List ℤ) : Type 0 where
   pub itself : ZeroDiagonal n ys
   pub sized : (e : ℕ) → e ≤ 53 → AllSized (2 ^ e) n xs → AllSized (2 ^ (e + k)) n ys
   pub through : AllSized closing_reach n xs → Through n k (zone_of n ys)
-
-pub begun_none : (n : ℕ) (xs : List ℤ) → ZeroDiagonal n xs → Begun n 0 xs xs
-begun_none n xs z = record {
-  levels = λ x. (λ p. p, λ p. p);
-  smaller = λ i j hi hj. no_larger_refl (zone_of n xs i j);
-  itself = z;
-  sized = λ e _ s. subst (λ k. AllSized (2 ^ k) n xs) (omega arith) s;
-  through = λ s i j k hi hj hk. absurd (omega arith);
-}
 
 -- a size doubles in a turn, and stays small enough for exact sums
 doubled : (e k : ℕ) → e ≤ 53 → k ≤ 8 → (2 ^ (e + k) + 2 ^ (e + k) ≡ 2 ^ (e + (k + 1))) × (2 ^ (e + (k + 1)) ≤ 2 ^ 63 - 2)

@@ -1,23 +1,18 @@
-use Rattle.std.proofs.Common.{◌≡◌, not, rules, tests, ◌∙◌, sym}
+use Rattle.std.proofs.Common.{◌≡◌, rules, tests, ◌∙◌}
 use Rattle.std.proofs.lemmas.Iterator.{YieldsList-from_slice}
-use Rattle.std.proofs.lemmas.Iterator.Search.{position_from_yields_List}
 use Rattle.refusal.specs.Order.{first_bad}
-use Rattle.refusal.proofs.Firsts.{first_position}
 use Rattle.zones.specs.Checks.{rise_ok, fall_ok}
+use Rattle.zones.proofs.Searching.{first_found}
 use Rattle.zones.proofs.checks.check_rates.Goals as goal
 use Rattle.zones.proofs.checks.check_rates.Goals.{After-position, After-position-2}
 
 rise_is : (c : After-position) → first_bad rise_ok 0 c.args.rates.now ≡ c.position.result
-rise_is c =
-    first_position rise_ok c.args.rates.now
-    ∙ sym (position_from_yields_List (λ r. not (rise_ok r)) _ _ _ c.position.ensures.ran
-    (YieldsList-from_slice c.args.rates.now cc) (λ x b q k. search (rules, tests)))
+rise_is c = first_found rise_ok _ _ _ c.position.ensures.ran (YieldsList-from_slice c.args.rates.now cc)
+    (λ x b q k. search (rules, tests))
 
 fall_is : (c : After-position-2) → first_bad fall_ok 0 c.args.rates.now ≡ c.position-2.result
-fall_is c =
-    first_position fall_ok c.args.rates.now
-    ∙ sym (position_from_yields_List (λ r. not (fall_ok r)) _ _ _ c.position-2.ensures.ran
-    (YieldsList-from_slice c.args.rates.now cc) (λ x b q k. search (rules, tests)))
+fall_is c = first_found fall_ok _ _ _ c.position-2.ensures.ran (YieldsList-from_slice c.args.rates.now cc)
+    (λ x b q k. search (rules, tests))
 
 pub returns-in-Some : goal.returns-in-Some
 returns-in-Some c = rw (c.in_ok-check_length.ensures, rise_is (goal.at.returns-in-Some c).After-position ∙ c.in-Some.is)

@@ -1,28 +1,21 @@
-use Rattle.std.proofs.Common.{◌≡◌, leb, not, rules, tests, ◌∙◌, sym}
+use Rattle.std.proofs.Common.{◌≡◌, leb, rules, tests, ◌∙◌}
 use Rattle.std.proofs.lemmas.Iterator.{YieldsList-from_slice}
-use Rattle.std.proofs.lemmas.Iterator.Search.{position_from_yields_List}
-use Rattle.refusal.proofs.Firsts.{first_position}
 use Rattle.zones.specs.Lent.{first_above}
+use Rattle.zones.proofs.Searching.{first_found}
 use Rattle.zones.proofs.lent.check_lent.Goals as goal
 use Rattle.zones.proofs.lent.check_lent.Goals.{After-position, After-position-2, After-position-3}
 
 rise_is : (c : After-position) → first_above 10000 c.args.rise.now ≡ c.position.result
-rise_is c =
-    first_position (λ v. leb v 10000) c.args.rise.now
-    ∙ sym (position_from_yields_List (λ v. not (leb v 10000)) _ _ _ c.position.ensures.ran
-    (YieldsList-from_slice c.args.rise.now cc) (λ x b q k. search (rules, tests)))
+rise_is c = first_found (λ v. leb v 10000) _ _ _ c.position.ensures.ran (YieldsList-from_slice c.args.rise.now cc)
+    (λ x b q k. search (rules, tests))
 
 fall_is : (c : After-position-2) → first_above 10000 c.args.fall.now ≡ c.position-2.result
-fall_is c =
-    first_position (λ v. leb v 10000) c.args.fall.now
-    ∙ sym (position_from_yields_List (λ v. not (leb v 10000)) _ _ _ c.position-2.ensures.ran
-    (YieldsList-from_slice c.args.fall.now cc) (λ x b q k. search (rules, tests)))
+fall_is c = first_found (λ v. leb v 10000) _ _ _ c.position-2.ensures.ran (YieldsList-from_slice c.args.fall.now cc)
+    (λ x b q k. search (rules, tests))
 
 number_is : (c : After-position-3) → first_above 2000002 c.args.zone.now ≡ c.position-3.result
-number_is c =
-    first_position (λ v. leb v 2000002) c.args.zone.now
-    ∙ sym (position_from_yields_List (λ v. not (leb v 2000002)) _ _ _ c.position-3.ensures.ran
-    (YieldsList-from_slice c.args.zone.now cc) (λ x b q k. search (rules, tests)))
+number_is c = first_found (λ v. leb v 2000002) _ _ _ c.position-3.ensures.ran (YieldsList-from_slice c.args.zone.now cc)
+    (λ x b q k. search (rules, tests))
 
 pub returns-in-Some : goal.returns-in-Some
 returns-in-Some c =

@@ -5,36 +5,15 @@ use Rattle.std.proofs.lemmas.Int.{ints, to_z-of_z}
 use Rattle.bounds.specs.Meaning.{total_sum}
 use Rattle.zones.specs.Numbers.{cell, zone_of}
 use Rattle.zones.proofs.Cells.{place, place_within, cell_same}
-use Rattle.zones.proofs.Turning.{Turned, Begun, begun_none, begun_more, begun_empty, begun_all, turned_none, turned_more}
+use Rattle.zones.proofs.Turning.{Turned, Begun, begun_more, begun_empty, begun_all, turned_more}
 use Rattle.zones.proofs.Turning.{row_write, row_skip, row_done, diagonal_write, zero_is}
 use Rattle.zones.proofs.Near.{turns_near}
 use Rattle.zones.proofs.turns.Zone+i64.turn_all.Goals as goal
 use Rattle.zones.proofs.turns.Zone+i64.turn_all.Goals.{After-is_sharper, then-is_sharper+else-i-j, else-is_sharper}
 
-pub loop-k-init : goal.loop-k-init
-loop-k-init c = begun_none c.args.self.now.basins c.args.self.now.numbers.now c.requires
-
-pub loop-i-init : goal.loop-i-init
-loop-i-init c =
-    let z = zone_of c.args.self.now.basins c.loop-k.zone in (
-      subst (λ p. Turned c.args.self.now.basins c.loop-k.k 0 p z z) (omega arith)
-          (turned_none c.args.self.now.basins c.loop-k.k 0 z),
-      c.loop-k.invariant.itself,
-    )
-
-pub loop-j-init : goal.loop-j-init
-loop-j-init c = (
-  turned_none c.args.self.now.basins c.loop-k.k (place c.args.self.now.basins c.loop-i.i 0)
-      (zone_of c.args.self.now.basins c.loop-i.zone),
-  c.loop-i.invariant.1,
-)
-
 pub slice_copy_out-from_k : goal.slice_copy_out-from_k
 slice_copy_out-from_k c = let p = place_within c.args.self.now.basins c.loop-k.k c.loop-j.j (omega arith)
     (omega arith) in omega arith
-
-pub bounds-zone-at : goal.bounds-zone-at
-bounds-zone-at c = let p = place_within c.args.self.now.basins c.loop-i.i c.loop-j.j (omega arith) (omega arith) in omega arith
 
 -- the sum that was computed, and the test
 sum_is : (c : After-is_sharper) → to_z w64 (of_z w64 c.sum-through.result) ≡ total_sum
