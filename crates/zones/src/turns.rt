@@ -8,7 +8,8 @@ use crate::zone::Zone;
 const BELOW_ITSELF: i64 = -1;
 
 impl Zone<'_, i64> {
-    // No number is above itself, and no level below the datum. False, and left at once, where a number is below itself.
+    // No number is above itself, and no level below the datum. False, and left at once, where a number is below itself. Of each
+    // number the bound of the datum and the one on itself, which lie in no row or part of their own.
     fn settle(&mut self) -> bool
         ensures lent { SameLoan self.old self.new }
         ensures settled { Settles self.old.basins self.old.numbers.now result self.new.numbers.now }
