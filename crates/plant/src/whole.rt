@@ -6,7 +6,8 @@ use crate::kinds::Gauge;
 use zones::{Range, Rate};
 
 // The basins with their ranges at the start and their rates, the gauges, and how many gauges may be wrong. There is none
-// past the limits: whoever writes a field owes this again.
+// past the limits: whoever writes a field owes this again. Ranges and rates are a list each, as they are handed in and refused by
+// their length, and lent on to the zones.
 #[derive(Drop)]
 pub struct Plant {
     pub basins: usize,

@@ -14,8 +14,10 @@ fn zones(observer: &Observer) -> ChunksExact<'_, i64>
     ensures rest { chunks_exact_rest result ≡ observer.now.table.items }
     ensures size { chunks_exact_size result ≡ size observer.now.plant.basins }
 {
-    let side = observer.plant.basins + 1;
-    observer.table.as_slice().chunks_exact(side * side)
+    observer
+        .table
+        .as_slice()
+        .chunks_exact(observer.plant.zone_size())
 }
 
 // Whether a zone has no levels: the datum would be below itself.

@@ -5,7 +5,8 @@ use faults::FaultSet;
 use plant::Plant;
 
 // A set-membership observer: the plant, how many steps it has taken and how many gauges are in play, and for each fault set
-// of these gauges, in order, a zone in the table. It does not grow with the events.
+// of these gauges, in order, a zone in the table. It does not grow with the events. The zones lie one behind the other in one
+// list, as a table is lent.
 #[derive(Drop)]
 pub struct Observer {
     pub plant: Plant,
