@@ -8,12 +8,10 @@ ghost use Rattle.plant.specs.Events.{step_refused, steps_in, steps_refused, Answ
 
 use crate::kinds::{Event, GaugeReading};
 use refusal::Refusal;
+use zones::MAX_READING;
 
 // No more steps are taken.
 pub const MAX_STEPS: u32 = 1_000_000;
-
-// No reading is past it either way.
-const MAX_READING: i64 = 1_000_000;
 
 // The reading is of one of the gauges in play.
 fn check_gauge(gauges: u32, reading: GaugeReading) -> Result<(), Refusal>

@@ -21,7 +21,8 @@ fn check_table(plant: &Plant, sets: &[FaultSet], table: &[i64]) -> Result<(), Re
     Ok(())
 }
 
-// Changes the zone of every set: a part of the numbers, lent on to be written.
+// Changes the zone of every set: a part of the numbers, lent on to be written. (Of what a part from `chunks_mut` holds
+// afterwards nothing is known.)
 fn change_each<F: Fn(FaultSet, &mut [i64]) -> Result<(), Refusal>>(
     plant: &Plant,
     sets: &[FaultSet],
