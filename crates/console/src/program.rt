@@ -2,8 +2,10 @@
 ghost use Rattle.std.specs.Prelude.{◌≡◌, true, IfOk};
 
 use crate::call::{Call, choose};
+use crate::output::Console;
+use std::alloc::Global;
 use std::fs::File;
-use std::io::Read;
+use std::io::{BufWriter, Read, Write};
 use std::process::ExitCode;
 use std::{env, fmt, io};
 
@@ -19,7 +21,7 @@ pub trait Program {
     type Counts: Drop;
 
     // Why it was not.
-    type Halt: fmt::Display + Drop;
+    type Halt: From<io::Error> + fmt::Display + Drop;
 
     // Every line could be taken.
     ghost clean: { Self.Counts → Type 0 };
@@ -30,8 +32,12 @@ pub trait Program {
     // It has been told why.
     fn is_told(halt: &Self::Halt) -> bool;
 
-    // Follows an input that could be opened.
-    fn follow<R: Read + Drop>(rt: &HostRuntime, from: R) -> Result<Self::Counts, Self::Halt>;
+    // Follows an input that could be opened, and answers.
+    fn follow<R: Read + Drop, O: Write + Drop, E: Write + Drop>(
+        heap: Global,
+        from: R,
+        console: Console<O, E>,
+    ) -> Result<Self::Counts, Self::Halt>;
 }
 
 // The process ends with status 1; what went wrong has been printed.
@@ -41,6 +47,13 @@ struct Failed;
 fn fail<D: fmt::Display + Drop>(rt: &HostRuntime, what: D) -> Failed {
     let _ = eprintln!(rt; "{what}");
     Failed
+}
+
+// Follows an input, and answers on standard output.
+fn answer<P: Program, R: Read + Drop>(rt: &HostRuntime, from: R) -> Result<P::Counts, P::Halt> {
+    let out = BufWriter::new(rt.alloc(), rt.stdout())?;
+    let err = BufWriter::new(rt.alloc(), rt.stderr())?;
+    P::follow(rt.alloc(), from, Console { out, err })
 }
 
 // Follows one input. It is done well only if every line could be taken.
@@ -53,7 +66,7 @@ fn run<P: Program, R: Read + Drop>(
 {
     let program = P::NAME;
     let from = input.map_err(|e| fail(rt, format_args!("{program}: {name}: cannot open: {e}")))?;
-    match P::follow(rt, from) {
+    match answer::<P, _>(rt, from) {
         Ok(counts) if P::is_clean(&counts) => Ok(counts),
         Ok(_) => Err(Failed),
         Err(halt) if P::is_told(&halt) => Err(Failed),

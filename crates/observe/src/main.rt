@@ -13,7 +13,8 @@ mod lines;
 use console::{Console, Program};
 use counts::Counts;
 use halt::Halt;
-use std::io::{BufWriter, Read};
+use std::alloc::Global;
+use std::io::{Read, Write};
 use std::process::ExitCode;
 
 const USAGE: &str = "usage: observe [FILE]\n       observe --help";
@@ -85,12 +86,14 @@ impl Program for Observe {
         matches!(halt, Halt::Refused)
     }
 
-    fn follow<R: Read + Drop>(rt: &HostRuntime, from: R) -> Result<Counts, Halt>
+    fn follow<R: Read + Drop, O: Write + Drop, E: Write + Drop>(
+        heap: Global,
+        from: R,
+        console: Console<O, E>,
+    ) -> Result<Counts, Halt>
         ensures { IfOk result Once }
     {
-        let out = BufWriter::new(rt.alloc(), rt.stdout())?;
-        let err = BufWriter::new(rt.alloc(), rt.stderr())?;
-        lines::follow(rt.alloc(), from, Console { out, err })
+        lines::follow(heap, from, console)
     }
 }
 
