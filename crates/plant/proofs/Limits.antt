@@ -35,12 +35,6 @@ module _ (n f : ℕ) (ranges : List Range) (rates : List Rate) (gauges : List Ga
   pub count_taken : refusal_of (length gauges) f ≡ None
   count_taken = taken.1
 
-  pub rates_taken : rate_refused n rates ≡ None
-  rates_taken = (both_none (basins_refused n) (rate_refused n rates) taken.3).1
-
-  pub ranges_taken : range_refused n ranges ≡ None
-  ranges_taken = (both_none (basins_refused n) (range_refused n ranges) taken.4).1
-
   pub gauge_placed : (a : ℕ) → a < length gauges →
       ((gauge_at gauges a).first ≤ n) × ((gauge_at gauges a).second ≤ n)
       × (1 ≤ (gauge_at gauges a).first) × ((gauge_at gauges a).first ≢ (gauge_at gauges a).second)

@@ -1,8 +1,9 @@
 -- Which events are taken. Assumes nothing: these are definitions.
-use Rattle.std.specs.Prelude.{ℕ, ◌+◌, cond, ◌||◌, List, [], ◌∷◌, pos, neg_ℤ, is_some, None, Option, Result, int_lt, nat_le, nat_lt}
+use Rattle.std.specs.Prelude.{ℕ, ◌+◌, cond, List, [], ◌∷◌, is_some, None, Option, Result, nat_le, nat_lt}
 use Rattle.refusal.specs.Order.{when, or_else, first_of, Found}
 use Rattle.refusal.specs.declared.kinds.Refusal.{Refusal}
 use Rattle.refusal.specs.declared.kinds.Refusal.TheVariants as refuses
+use Rattle.zones.specs.Checks as zone
 use Rattle.plant.specs.declared.kinds.Event.{Event}
 use Rattle.plant.specs.declared.kinds.Event.TheVariants as event
 use Rattle.plant.specs.declared.kinds.GaugeReading.{GaugeReading}
@@ -14,9 +15,7 @@ gauge_refused g r = when (nat_le g r.gauge) (refuses.NoGauge r.gauge)
 
 -- The ends of a reading are in order, and within a million either way.
 abbrev pub ends_refused : GaugeReading → Option Refusal
-ends_refused r =
-    or_else (when (int_lt r.high r.low) refuses.LowAboveHigh)
-    (when (int_lt r.low (neg_ℤ (pos 1000000)) || int_lt (pos 1000000) r.high) refuses.PastMillion)
+ends_refused r = zone.ends_refused r.low r.high
 
 -- A reading, where g gauges are in play.
 abbrev pub reading_refused : ℕ → GaugeReading → Option Refusal

@@ -8,7 +8,6 @@ ghost use Rattle.plant.specs.Events.{step_refused, steps_in, steps_refused, Answ
 
 use crate::kinds::{Event, GaugeReading};
 use refusal::Refusal;
-use zones::MAX_READING;
 
 // No more steps are taken.
 pub const MAX_STEPS: u32 = 1_000_000;
@@ -27,13 +26,7 @@ fn check_gauge(gauges: u32, reading: GaugeReading) -> Result<(), Refusal>
 fn check_ends(reading: GaugeReading) -> Result<(), Refusal>
     ensures { Found result (ends_refused reading) }
 {
-    if reading.low > reading.high {
-        return Err(Refusal::LowAboveHigh);
-    }
-    if reading.low < -MAX_READING || reading.high > MAX_READING {
-        return Err(Refusal::PastMillion);
-    }
-    Ok(())
+    zones::check_ends(reading.low, reading.high)
 }
 
 // A reading is taken where so many gauges are in play.

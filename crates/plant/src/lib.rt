@@ -67,7 +67,7 @@ mod tests {
         make(heap, 2, 0, &[HIGH; 2], &[STILL; 2], &[LEVEL, tried, tried])
     }
 
-    // The number and the place of a refusal.
+    // The number and the place of a refusal. The tests of table have the same: what tests share would have to be public.
     fn told(refusal: Refusal) -> (u8, u64) {
         (refusal.number(), refusal.place())
     }

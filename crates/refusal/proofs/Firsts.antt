@@ -1,29 +1,15 @@
--- The first element that fails a test: how a library search and the turns of a loop find it. Assumes nothing.
+-- The first element that fails a test, as a search by position finds it; the first finding, as the turns of a loop do. Assumes
+-- nothing.
 use Rattle.std.proofs.Common.{◌≡◌, ℕ, zero, suc, ◌+◌, ◌<◌, ◌≤◌, Bool, true, false, cond, nat_lt, not, List, [], ◌∷◌, length, get_or, drop, Some, None, Option, sym, refl, ap, ◌∙◌, arith}
 use Rattle.std.proofs.lemmas.List.{drop_more, drop_all}
-use Rattle.std.specs.List.{position, position_or_len}
+use Rattle.std.specs.Fn.{Called}
+use Rattle.std.specs.Iterator.{YieldsThen}
+use Rattle.std.specs.List.{FoldsTo, position, position_or_len}
+use Rattle.std.specs.Option.{MatchOption}
+use Rattle.std.proofs.lemmas.Iterator.{YieldsList}
+use Rattle.std.proofs.lemmas.Iterator.Search.{position_from_yields_List}
 use Rattle.refusal.specs.Order.{or_else, first_bad, first_of}
-
-module _ {A : Type 0} (ok : A → Bool) (xs : List A) where
-  -- the elements below i pass
-  abbrev pub Passed : ℕ → Type 0
-  Passed i = first_bad ok 0 xs ≡ first_bad ok i (drop i xs)
-
-  one : (i : ℕ) (d : A) → i < length xs → Passed i → first_bad ok 0 xs ≡ cond (ok (get_or xs i d))
-      (first_bad ok (i + 1) (drop (i + 1) xs)) (Some i)
-  one i d h inv = inv ∙ ap (first_bad ok i) (drop_more xs i d h)
-
-  -- element i fails
-  pub here : (i : ℕ) (d : A) → i < length xs → Passed i → ok (get_or xs i d) ≡ false → Some i ≡ first_bad ok 0 xs
-  here i d h inv e = sym (one i d h inv ∙ ap (λ b. cond b (first_bad ok (i + 1) (drop (i + 1) xs)) (Some i)) e)
-
-  -- element i passes
-  pub next : (i : ℕ) (d : A) → i < length xs → Passed i → ok (get_or xs i d) ≡ true → Passed (i + 1)
-  next i d h inv e = one i d h inv ∙ ap (λ b. cond b (first_bad ok (i + 1) (drop (i + 1) xs)) (Some i)) e
-
-  -- none fails
-  pub done : (i : ℕ) → length xs ≤ i → Passed i → None ≡ first_bad ok 0 xs
-  done i h inv = sym (inv ∙ ap (first_bad ok i) (drop_all i xs h))
+use denote.Param.Members.{Mut}
 
 passes : (b : Bool) (o : Option ℕ) (i : ℕ) → cond b o (Some i) ≡ None → (b ≡ true) × (o ≡ None)
 passes true o i e = (refl, e)
@@ -48,10 +34,20 @@ first_from ok i [] = refl
 first_from ok i (x ∷ xs) =
     counted (ok x) (first_bad ok (i + 1) xs) i (position_or_len (λ y. not (ok y)) xs) (length xs) (first_from ok (i + 1) xs)
 
-pub first_position : {A : Type 0} (ok : A → Bool) (xs : List A) → first_bad ok 0 xs ≡ position (λ x. not (ok x)) xs
+first_position : {A : Type 0} (ok : A → Bool) (xs : List A) → first_bad ok 0 xs ≡ position (λ x. not (ok x)) xs
 first_position ok xs = first_from ok 0 xs ∙ ap (λ k. cond (nat_lt (position_or_len (λ x. not (ok x)) xs) (length xs)) (Some k) None) (grind arith)
 
--- ---- the same for the first finding
+-- r is what `position` answered, of an iterator over all and a closure that tells which of them fail
+pub first_found : {S A B F : Type 0} {steps : S → Option A → S → Type 0} {v : A → B} {g : Mut F (A × Unit {0}) Bool} {s : S}
+    {all : List B} (ok : B → Bool) (u : S) (f : F) (r : Option ℕ) →
+    (xs : List A) × (o : Option A) × (j : F) × YieldsThen steps s xs o u × FoldsTo (λ p x q. Called g p (x, tt) false q) f xs j
+    × MatchOption o (r ≡ None) (λ x. (r ≡ Some (length xs)) × ((h : F) × Called g j (x, tt) true h)) →
+    YieldsList steps v s all → ((x : A) (b : Bool) (q : F) → Called g f (x, tt) b q → (q ≡ f) × (b ≡ not (ok (v x)))) →
+    first_bad ok 0 all ≡ r
+first_found {all = all} ok u f r ran gives each =
+    first_position ok all ∙ sym (position_from_yields_List (λ x. not (ok x)) u f r ran gives each)
+
+-- ---- the turns of a loop for the first finding
 module _ {A B : Type 0} (f : A → Option B) (xs : List A) where
   -- nothing is found below i
   abbrev pub Clear : ℕ → Type 0

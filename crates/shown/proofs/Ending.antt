@@ -167,10 +167,6 @@ module _ (o : Observer) (es : List Event) (t : Tracks o es) where
       exact_same possible (λ x. difference x i 0) (level i) (λ x p. difference_datum x i (datum_possible p))
       (span_of (largest_of o 0 i) (largest_of o i 0)) (span_exact i 0 hi (omega arith))
 
-  pub alarm_rings : (i : ℕ) (limit : ℤ) → i ≤ o.plant.basins →
-      Rings (alarm_of (span_of (largest_of o 0 i) (largest_of o i 0)) limit) (level i) possible limit
-  alarm_rings i limit hi = rings possible (level i) (span_of (largest_of o 0 i) (largest_of o i 0)) limit (level_exact i hi)
-
   pub none_decided : Decides (none_has_levels o)
       (NonePossible o.plant.basins o.in_play o.plant.wrong (start_of o.plant) (resolved o.plant es))
   none_decided =

@@ -61,9 +61,6 @@ pub record Going (n : ℕ) (P : ℕ → List ℤ → List ℤ → Type 0) (i : �
   pub before : (k : ℕ) → k < i → P k (part n k xs) (part n k ys)
   pub after : (k : ℕ) → i ≤ k → part n k ys ≡ part n k xs
 
-pub going_none : (n : ℕ) (P : ℕ → List ℤ → List ℤ → Type 0) (xs : List ℤ) → Going n P 0 xs xs
-going_none n P xs = record { before = λ k l. absurd (omega arith); after = λ k _. refl }
-
 -- the zone at i is done
 pub going_more : (n : ℕ) (P : ℕ → List ℤ → List ℤ → Type 0) (i : ℕ) (xs ys zs : List ℤ) → Going n P i xs ys →
     P i (part n i ys) (part n i zs) → Only n i ys zs → Going n P (i + 1) xs zs

@@ -19,9 +19,8 @@ pub placed_taken : (n g : ℕ) (gs : List Gauge) (r : GaugeReading) → reading_
     (gauge_at gs r.gauge).first ≤ n → (gauge_at gs r.gauge).second ≤ n →
     (gauge_at gs r.gauge).first ≢ (gauge_at gs r.gauge).second → zone.reading_refused n (placed_reading gs r) ≡ None
 placed_taken n g gs r e a b ne =
-    let ends = both_none (when (lt_z r.high r.low) refuses.LowAboveHigh) _
-    (both_none (gauge_refused g r) (ends_refused r) e).1 in
-    neither _ _ ends.0 (neither _ _ ends.1 (neither _ _ (within _ _ n a b) (apart _ _ ne)))
+    let ends = (both_none (gauge_refused g r) (ends_refused r) e).1 in
+    neither _ _ ends (neither _ _ (within _ _ n a b) (apart _ _ ne))
   where
     within : (i j n : ℕ) → i ≤ n → j ≤ n → when (ltb n i || ltb n j) refuses.NoBasin ≡ None
     within i j n a b = grind (arith, nat_tests)

@@ -100,7 +100,7 @@ mod tests {
         check_zones(rt, &observer.table, zones);
     }
 
-    // The number and the place of a refusal.
+    // The number and the place of a refusal. The tests of plant have the same: what tests share would have to be public.
     fn told(refusal: Refusal) -> (u8, u64) {
         (refusal.number(), refusal.place())
     }

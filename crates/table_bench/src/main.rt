@@ -115,6 +115,7 @@ fn left_by<F: Fn(&mut Observer, usize)>(
     rounds_of(rt.alloc(), rounds, work).map_err(|_| anyhow!("no observer"))
 }
 
+// As in zone_bench: a crate for these lines alone would be no plainer.
 fn time<F: Fn(&mut Observer, usize)>(
     rt: &HostRuntime,
     what: &str,

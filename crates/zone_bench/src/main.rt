@@ -98,7 +98,7 @@ fn left_by_readings(rounds: usize) -> Result<i64, Refusal> {
     })
 }
 
-// Times so many rounds of some work.
+// Times so many rounds of some work. As in table_bench: a crate for these lines alone would be no plainer.
 fn time<F: FnOnce(usize) -> Result<i64, Refusal>>(
     rt: &HostRuntime,
     what: &str,

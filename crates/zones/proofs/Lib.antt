@@ -5,7 +5,6 @@ pub mod Settling
 pub mod Closing
 pub mod Mapping
 pub mod Checked
-pub mod Searching
 pub mod Meeting
 pub mod Near
 pub mod Stepping

@@ -1,6 +1,6 @@
 -- What is refused before a zone is touched. Where several apply, the smallest number decides, and then the smallest place.
 -- Assumes nothing: these are definitions.
-use Rattle.std.specs.Prelude.{ℕ, ◌+◌, ◌*◌, Bool, not, ◌&&◌, ◌||◌, List, length, pos, neg_ℤ, Option, ◌==◌, int_lt, nat_le, nat_lt}
+use Rattle.std.specs.Prelude.{ℕ, ℤ, ◌+◌, ◌*◌, Bool, not, ◌&&◌, ◌||◌, List, length, pos, neg_ℤ, Option, ◌==◌, int_lt, nat_le, nat_lt}
 use Rattle.std.specs.Option.{option_map}
 use Rattle.refusal.specs.Order.{when, or_else, first_bad}
 use Rattle.refusal.specs.declared.kinds.Refusal.{Refusal}
@@ -43,13 +43,18 @@ rate_refused n rs =
     (or_else (option_map (λ i. refuses.Rate (i + 1)) (first_bad rise_ok 0 rs))
     (option_map (λ i. refuses.Rate (n + (i + 1))) (first_bad fall_ok 0 rs)))
 
--- A reading that is in order, within a million either way, of two different numbers of the zone.
+-- The ends of a reading: in order, and within a million either way.
+abbrev pub ends_refused : ℤ → ℤ → Option Refusal
+ends_refused low high =
+    or_else (when (int_lt high low) refuses.LowAboveHigh)
+    (when (int_lt low (neg_ℤ (pos 1000000)) || int_lt (pos 1000000) high) refuses.PastMillion)
+
+-- A reading whose ends are taken, of two different numbers of the zone.
 abbrev pub reading_refused : ℕ → Reading → Option Refusal
 reading_refused n r =
-    or_else (when (int_lt r.high r.low) refuses.LowAboveHigh)
-    (or_else (when (int_lt r.low (neg_ℤ (pos 1000000)) || int_lt (pos 1000000) r.high) refuses.PastMillion)
+    or_else (ends_refused r.low r.high)
     (or_else (when (nat_lt n r.first || nat_lt n r.second) refuses.NoBasin)
-    (when (r.first == r.second) refuses.SameBasin)))
+    (when (r.first == r.second) refuses.SameBasin))
 
 -- What each function refuses, for a zone of so many numbers.
 abbrev pub first_refused : ℕ → ℕ → List Range → Option Refusal

@@ -1,7 +1,7 @@
 // The checks that come before a zone is touched, in the order of their numbers.
 ghost use Rattle.std.specs.Prelude.{◌≡◌, ◌+◌, ◌*◌, ◌≤◌, length, None, MatchResult};
 ghost use Rattle.refusal.specs.Order.{Found};
-ghost use Rattle.zones.specs.Checks.{basins_refused, length_refused, range_ok, range_refused, rate_refused};
+ghost use Rattle.zones.specs.Checks.{basins_refused, ends_refused, length_refused, range_ok, range_refused, rate_refused};
 ghost use Rattle.zones.specs.Checks.{ranges_refused, rates_refused, reading_refused, size_refused};
 
 use crate::kinds::{Range, Rate, Reading};
@@ -16,7 +16,7 @@ const MAX_START: u32 = 100_000;
 pub(crate) const MAX_RATE: u32 = 10_000;
 
 // No reading is past it either way.
-pub const MAX_READING: i64 = 1_000_000;
+const MAX_READING: i64 = 1_000_000;
 
 // So many basins are taken.
 pub fn check_basins(basins: usize) -> Result<(), Refusal>
@@ -83,16 +83,24 @@ pub(crate) fn check_rates(basins: usize, rates: &[Rate]) -> Result<(), Refusal>
     Ok(())
 }
 
-// A reading is in order, within its limits, and of two different numbers of the zone.
+// The ends of a reading are in order and within their limits.
+pub fn check_ends(low: i64, high: i64) -> Result<(), Refusal>
+    ensures { Found result (ends_refused low high) }
+{
+    if low > high {
+        return Err(Refusal::LowAboveHigh);
+    }
+    if low < -MAX_READING || high > MAX_READING {
+        return Err(Refusal::PastMillion);
+    }
+    Ok(())
+}
+
+// The ends of a reading are taken, and it is of two different numbers of the zone.
 pub(crate) fn check_reading(basins: usize, reading: Reading) -> Result<(), Refusal>
     ensures { Found result (reading_refused basins reading) }
 {
-    if reading.low > reading.high {
-        return Err(Refusal::LowAboveHigh);
-    }
-    if reading.low < -MAX_READING || reading.high > MAX_READING {
-        return Err(Refusal::PastMillion);
-    }
+    check_ends(reading.low, reading.high)?;
     if usize::from(reading.first) > basins || usize::from(reading.second) > basins {
         return Err(Refusal::NoBasin);
     }

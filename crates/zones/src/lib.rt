@@ -16,7 +16,7 @@ mod turns;
 mod whole;
 mod zone;
 
-pub use checks::{MAX_READING, check_basin_ranges, check_basin_rates, check_basins};
+pub use checks::{check_basin_ranges, check_basin_rates, check_basins, check_ends};
 pub use first::set_first;
 pub use kinds::{Range, Rate, Reading};
 pub use lent::widen_zone;

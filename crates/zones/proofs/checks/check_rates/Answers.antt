@@ -2,7 +2,7 @@ use Rattle.std.proofs.Common.{◌≡◌, rules, tests, ◌∙◌}
 use Rattle.std.proofs.lemmas.Iterator.{YieldsList-from_slice}
 use Rattle.refusal.specs.Order.{first_bad}
 use Rattle.zones.specs.Checks.{rise_ok, fall_ok}
-use Rattle.zones.proofs.Searching.{first_found}
+use Rattle.refusal.proofs.Firsts.{first_found}
 use Rattle.zones.proofs.checks.check_rates.Goals as goal
 use Rattle.zones.proofs.checks.check_rates.Goals.{After-position, After-position-2}
 

@@ -1,7 +1,7 @@
 use Rattle.std.proofs.Common.{◌≡◌, leb, rules, tests, ◌∙◌}
 use Rattle.std.proofs.lemmas.Iterator.{YieldsList-from_slice}
 use Rattle.zones.specs.Lent.{first_above}
-use Rattle.zones.proofs.Searching.{first_found}
+use Rattle.refusal.proofs.Firsts.{first_found}
 use Rattle.zones.proofs.lent.check_lent.Goals as goal
 use Rattle.zones.proofs.lent.check_lent.Goals.{After-position, After-position-2, After-position-3}
 
