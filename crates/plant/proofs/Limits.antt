@@ -6,7 +6,7 @@ use Rattle.refusal.proofs.Firsts.{each}
 use Rattle.refusal.proofs.Orders.{both_none, mapped_none}
 use Rattle.zones.specs.declared.kinds.Range.{Range}
 use Rattle.zones.specs.declared.kinds.Rate.{Rate}
-use Rattle.zones.specs.Checks.{basins_refused, range_refused, ranges_refused, rate_refused, rates_refused}
+use Rattle.zones.specs.Checks.{basins_refused, ranges_refused, rates_refused}
 use Rattle.faults.specs.Limits.{refusal_of}
 use Rattle.plant.specs.declared.kinds.Gauge.{Gauge}
 use Rattle.plant.specs.Checks.{lengths_refused, placed, placement_refused, plant_refused}

@@ -1,6 +1,5 @@
 -- A reading that a plant takes is one that its zones take. Assumes nothing.
 use Rattle.std.proofs.Common.{◌≡◌, ℕ, ◌<◌, ◌≤◌, ◌||◌, eqb, ltb, ◌≢◌, List, None, arith}
-use lib.Signed.{lt_z}
 use Rattle.std.proofs.lemmas.Bool.Decides.{nat_tests}
 use Rattle.refusal.specs.Order.{when}
 use Rattle.refusal.specs.declared.kinds.Refusal.TheVariants as refuses
