@@ -19,6 +19,7 @@ impl fmt::Display for Halt {
     }
 }
 
+// Errors of reading are told by `map_err`.
 impl From<io::Error> for Halt {
     ghost from_gives = { λ e r. r ≡ Writing e };
 

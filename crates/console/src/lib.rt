@@ -11,7 +11,7 @@ pub use call::{Call, choose};
 pub use halt::Halt;
 pub use lines::{TakeLines, take_lines};
 pub use output::Console;
-pub use program::{Program, start};
+pub use program::{Failed, Program, start, status};
 
 #[cfg(test)]
 mod tests {

@@ -1,5 +1,6 @@
 // A program that follows a file or standard input.
-ghost use Rattle.std.specs.Prelude.{◌≡◌, true, IfOk};
+ghost use Rattle.std.specs.Prelude.{◌≡◌, true, IfOk, IfSome, MatchResult};
+ghost use Rattle.std.specs.Process.{exit_status};
 
 use crate::call::{Call, choose};
 use crate::output::Console;
@@ -40,8 +41,9 @@ pub trait Program {
     ) -> Result<Self::Counts, Self::Halt>;
 }
 
-// The process ends with status 1; what went wrong has been printed.
-struct Failed;
+// The process is to end with status 1; what went wrong has been printed.
+#[derive(Drop)]
+pub struct Failed;
 
 // Tells what went wrong. That it cannot be told is told by the status.
 fn fail<D: fmt::Display + Drop>(rt: &HostRuntime, what: D) -> Failed {
@@ -74,8 +76,11 @@ fn run<P: Program, R: Read + Drop>(
     }
 }
 
-// Does what the command line asks for.
-fn obey<P: Program>(rt: &HostRuntime) -> Result<(), Failed> {
+// Does what the command line asks for, and answers what is known of the input that was followed, if one was. That the right lines
+// are read and printed no contract can state: the gate runs the programs.
+pub fn start<P: Program>(rt: &HostRuntime) -> Result<Option<P::Counts>, Failed>
+    ensures { IfOk result (λ counts. IfSome counts P.clean) }
+{
     let program = P::NAME;
     let mut args = env::args(rt).map_err(|e| fail(rt, format_args!("{program}: arguments: {e}")))?;
     let _ = args.next();
@@ -84,22 +89,22 @@ fn obey<P: Program>(rt: &HostRuntime) -> Result<(), Failed> {
         Call::Help => {
             let help = P::HELP;
             let _ = println!(rt; "{help}");
+            Ok(None)
         }
-        Call::Input => {
-            run::<P, _>(rt, "standard input", Ok(rt.stdin()))?;
-        }
+        Call::Input => run::<P, _>(rt, "standard input", Ok(rt.stdin())).map(Some),
         Call::File(path) => {
-            run::<P, _>(rt, path.as_str(), File::open(rt, path.as_str()))?;
+            run::<P, _>(rt, path.as_str(), File::open(rt, path.as_str())).map(Some)
         }
-        Call::Misused => return Err(fail(rt, P::USAGE)),
+        Call::Misused => Err(fail(rt, P::USAGE)),
     }
-    Ok(())
 }
 
-// Does what the command line asks for, and says with what status the process ends.
-pub fn start<P: Program>(rt: &HostRuntime) -> ExitCode {
-    match obey::<P>(rt) {
-        Ok(()) => ExitCode::SUCCESS,
+// With what status the process ends.
+pub fn status<T: Drop>(done: Result<T, Failed>) -> ExitCode
+    ensures { MatchResult done (λ _. exit_status result ≡ 0) (λ _. exit_status result ≡ 1) }
+{
+    match done {
+        Ok(_) => ExitCode::SUCCESS,
         Err(Failed) => ExitCode::FAILURE,
     }
 }

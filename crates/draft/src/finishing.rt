@@ -8,7 +8,7 @@ use plant::{Gauge, Plant};
 use refusal::Refusal;
 use std::alloc::{AllocError, Global};
 
-// It is refused for its place, as if it hung at the datum alone.
+// Stands for a gauge without its line: at the datum twice, so that it is refused in its turn among the checks.
 const NOWHERE: Gauge = Gauge {
     first: 0,
     second: 0,

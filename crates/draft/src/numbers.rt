@@ -6,7 +6,7 @@ ghost use Rattle.std.specs.Result.{result_unwrap_or};
 use crate::kinds::BASINS;
 
 // The number itself, or the largest where it fits none.
-pub fn clamp<T: TryFrom<i64> + Drop>(number: i64, largest: T) -> T
+pub(crate) fn clamp<T: TryFrom<i64> + Drop>(number: i64, largest: T) -> T
 where
     T::Error: Drop,
     ensures { (r : Result T T.Error) × T.try_from_gives number r × (result ≡ result_unwrap_or r largest) }
@@ -15,7 +15,7 @@ where
 }
 
 // The index of a basin that a plant can have.
-pub fn basin_index(basin: i64) -> Option<usize>
+pub(crate) fn basin_index(basin: i64) -> Option<usize>
     ensures value { result ≡ basin_index basin }
     ensures below { MatchOption result Unit (λ i. i < 8) }
 {

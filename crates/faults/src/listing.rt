@@ -10,7 +10,8 @@ use crate::set::FaultSet;
 use refusal::{Failure, Refusal};
 use std::alloc::{AllocError, Global};
 
-// The most gauges, and the most of them that may be wrong. The listing itself is proved for 16 and 3.
+// The most gauges, and the most of them that may be wrong. The listing itself is proved for 16 and 3. Both numbers are handed in
+// as they come, and refused.
 pub const MAX_GAUGES: u32 = 12;
 
 pub const MAX_WRONG: u32 = 2;

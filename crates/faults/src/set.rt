@@ -3,7 +3,7 @@ ghost use Rattle.std.specs.Prelude.{◌≡◌, ℕ, ◌&&◌, count_ones, nat_lt
 ghost use Rattle.theory.specs.History.{count};
 ghost use Rattle.faults.specs.Sets.{gauge_set};
 
-// Bit a says whether gauge a is in the set: every number is a set.
+// Bit a says whether gauge a is in the set: every number is a set. A set is the bits of a u16 by the rules, and takes no memory.
 #[derive(Clone, Copy, PartialEq, Eq, Debug)]
 pub struct FaultSet {
     pub bits: u16,

@@ -76,5 +76,5 @@ impl Program for Follow {
 }
 
 fn main(rt: HostRuntime) -> ExitCode {
-    console::start::<Follow>(&rt)
+    console::status(console::start::<Follow>(&rt))
 }

@@ -80,6 +80,7 @@ impl<O: Write, E: Write> Session<O, E> {
         match answer {
             Answer::Taken => return Ok(()),
             Answer::Refused(refusal) => writeln!(out, "{refusal}")?,
+            // as Refusal::NoGauge, whose place is a u32
             Answer::NoGauge(gauge) => writeln!(out, "refused 8 {gauge}")?,
             Answer::Shown => {
                 // the plant has always ended then

@@ -98,5 +98,5 @@ impl Program for Observe {
 }
 
 fn main(rt: HostRuntime) -> ExitCode {
-    console::start::<Observe>(&rt)
+    console::status(console::start::<Observe>(&rt))
 }

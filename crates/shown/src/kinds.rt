@@ -1,8 +1,8 @@
 // What is asked, and what is shown.
 use faults::FaultSet;
 
-// An end of what a level or a difference can be. An enum of its own and no Option, as a span is: so what is shown is asked for,
-// and each has words of its own, a Display.
+// An end of what a level or a difference can be. By the rules what is shown is an enum of its own and no Option; it also has
+// words of its own, a Display.
 #[derive(Clone, Copy, PartialEq, Eq, Debug)]
 pub enum End {
     At(i64),
@@ -10,7 +10,7 @@ pub enum End {
     Open,
 }
 
-// What a level or a difference can be.
+// What a level or a difference can be: an enum of its own, as an end is.
 #[derive(Clone, Copy, PartialEq, Eq, Debug)]
 pub enum Span {
     // no levels are possible

@@ -20,7 +20,8 @@ fn zones(observer: &Observer) -> ChunksExact<'_, i64>
         .chunks_exact(observer.plant.zone_size())
 }
 
-// Whether a zone has no levels: the datum would be below itself.
+// Whether a zone has no levels: the datum would be below itself. As `zones::is_empty`, where the size is known and nothing is
+// refused.
 fn lacks_levels(zone: &[i64]) -> bool
     ensures { result ≡ lacks_levels zone.now }
 {

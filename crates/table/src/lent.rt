@@ -1,4 +1,5 @@
-// All zones of a table that is lent, one for each fault set.
+// All zones of a table that is lent, one for each fault set. The plant, the sets and the numbers are lent one by one, by the
+// rules, and go on so to the few functions below.
 ghost use Rattle.std.specs.Prelude.{◌≡◌, ◌*◌, ◌<◌, length, Some, MatchResult};
 ghost use Rattle.refusal.specs.Order.{Found};
 ghost use Rattle.zones.specs.Checks.{meet_refused};

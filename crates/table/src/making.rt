@@ -1,4 +1,4 @@
-// An observer is made of a plant, before any event.
+// An observer is made of a plant, before any event or after a whole row of them.
 ghost use Rattle.table.specs.Says.{AfterSays, NewSays};
 
 use crate::lent::start_table;

@@ -1,4 +1,4 @@
-// The program's state.
+// The observer's state.
 ghost use Rattle.std.specs.Prelude.{◌≡◌, ◌+◌, ◌*◌, ◌≤◌, vec_len};
 
 use faults::FaultSet;
@@ -6,7 +6,7 @@ use plant::Plant;
 
 // A set-membership observer: the plant, how many steps it has taken and how many gauges are in play, and for each fault set
 // of these gauges, in order, a zone in the table. It does not grow with the events. The zones lie one behind the other in one
-// list, as a table is lent.
+// list, as a table is lent. `in_play` is the number of the plant's gauges as checks take it.
 #[derive(Drop)]
 pub struct Observer {
     pub plant: Plant,

@@ -30,7 +30,7 @@ pub fn parse(line: &str, format: Format) -> Result<Option<Entry>, LineError<'_>>
     reader::entry(words, format).map(Some)
 }
 
-// The same of bytes: those that are no UTF-8 are no line.
+// The same of bytes: those that are no UTF-8 are no text.
 pub fn parse_bytes(bytes: &[u8], format: Format) -> Result<Option<Entry>, LineError<'_>>
     ensures text { IsUtf8 bytes.now → Parses format bytes.now result }
     ensures other { (IsUtf8 bytes.now → ⊥) → result ≡ Err NotText }

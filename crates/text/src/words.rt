@@ -72,9 +72,13 @@ impl<'a> Words<'a> {
     }
 
     // The words that are left, as the numbers of the fields.
-    pub fn numbers<const N: usize>(mut self, fields: [Field; N]) -> Result<[i64; N], LineError<'a>>
+    pub(crate) fn numbers<const N: usize>(
+        mut self,
+        fields: [Field; N],
+    ) -> Result<[i64; N], LineError<'a>>
         ensures { MatchResult result (Holds self.entry) (Fails self.entry fields.entry) }
     {
+        // by index: after a zip over iter_mut a proof knows no number
         let mut numbers = [0; N];
         for (i, field) in fields.iter().enumerate() {
             numbers[i] = self.number(*field)?;
@@ -84,7 +88,7 @@ impl<'a> Words<'a> {
     }
 
     // The one word that is left, as a number.
-    pub fn count(self, field: Field) -> Result<i64, LineError<'a>>
+    pub(crate) fn count(self, field: Field) -> Result<i64, LineError<'a>>
         ensures { MatchResult result (λ z. Holds self.entry (z ∷ [])) (Fails self.entry (field ∷ [])) }
     {
         let [count] = self.numbers([field])?;

@@ -110,7 +110,7 @@ pub(crate) fn check_reading(basins: usize, reading: Reading) -> Result<(), Refus
     Ok(())
 }
 
-// The same where no zone is lent with them: the number of basins is checked too.
+// There is a range for each basin, and each is in order. No zone is lent with them, so the number of basins is checked too.
 pub fn check_basin_ranges(basins: usize, ranges: &[Range]) -> Result<(), Refusal>
     ensures { Found result (ranges_refused basins ranges.now) }
 {
@@ -118,6 +118,7 @@ pub fn check_basin_ranges(basins: usize, ranges: &[Range]) -> Result<(), Refusal
     check_ranges(basins, ranges)
 }
 
+// As for ranges.
 pub fn check_basin_rates(basins: usize, rates: &[Rate]) -> Result<(), Refusal>
     ensures { Found result (rates_refused basins rates.now) }
 {

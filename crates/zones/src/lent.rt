@@ -13,7 +13,7 @@ use refusal::Refusal;
 // The number of the largest bound that may be lent.
 const MAX_NUMBER: u64 = 2_000_002;
 
-// The numbers of no bound and of the bound 0.
+// The numbers of no bound and of the bound 0, as they are lent from outside: a u64 has no room for an Option.
 const NO_BOUND: u64 = 0;
 
 const ZERO_BOUND: u64 = 1_000_001;
@@ -54,7 +54,7 @@ fn grown(rise: &[u64], fall: &[u64], i: usize, j: usize, bound: u64) -> u64
     }
 }
 
-// The smaller of two bounds.
+// The smaller of two bounds. (`bounds` has the same of other numbers, with a contract of its own.)
 fn smaller_of(a: u64, b: u64) -> u64
     ensures { result ≡ smaller a b }
 {
@@ -115,7 +115,8 @@ impl Zone<'_, u64> {
 
 // A step in time: the level of each of n basins rises and falls by no more than it can, and none falls below the datum.
 // What is refused leaves the zone as it was. A bound that passes 1,000,001 is written all the same, and refused if it is
-// lent again. The entry is lent its numbers from outside in this form: rises and falls in a list each.
+// lent again. The entry is lent its numbers from outside in this form: rises and falls in a list each, and so they go on to what
+// it calls.
 pub fn widen_zone(n: u64, rise: &[u64], fall: &[u64], zone: &mut [u64]) -> Result<(), Refusal>
     ensures { MatchResult result
         (λ _. (refused n rise.now fall.now zone.old ≡ None)

@@ -29,6 +29,7 @@ pub use whole::{close, is_empty, sizes_stand};
 mod tests {
     use super::*;
     use refusal::Refusal;
+    use std::process::Abort;
     use std::test::Fail;
 
     const RANGES: [Range; 2] = [
@@ -53,12 +54,16 @@ mod tests {
         }
     }
 
-    // The number and the place of what was refused.
-    fn refused(answer: Result<(), Refusal>) -> Option<(u8, u64)> {
-        match answer {
-            Ok(()) => None,
-            Err(refusal) => Some((refusal.number(), refusal.place())),
-        }
+    // Refused by this number at this place, with the zone as it was.
+    fn check_refused(
+        rt: &impl Abort,
+        answer: Result<(), Refusal>,
+        zone: [i64; 9],
+        told: (u8, u64),
+    ) {
+        let refused = answer.map_err(|refusal| (refusal.number(), refusal.place()));
+        assert_eq!(rt; refused, Err(told));
+        assert_eq!(rt; zone, [7; 9]);
     }
 
     // Basin 2 says 38 to 42, first less second 8 to 12: basin 1 is then 46 to 54, which no gauge of its own has said. A program that
@@ -146,15 +151,11 @@ mod tests {
     #[test]
     fn sizes_are_refused(rt: HostRuntime) {
         let mut zone = [7; 9];
-        assert_eq!(rt; refused(close(0, &mut zone)), Some((1, 0)));
-        assert_eq!(rt; refused(close(9, &mut zone)), Some((1, 0)));
-        assert_eq!(rt; refused(close(3, &mut zone)), Some((3, 9)));
-        assert_eq!(rt;
-            refused(set_first(2, &RANGES[0..1], &mut zone)),
-            Some((3, 1))
-        );
-        assert_eq!(rt; refused(step(2, &RATES[0..1], &mut zone)), Some((3, 1)));
-        assert_eq!(rt; zone, [7; 9]);
+        check_refused(&rt, close(0, &mut zone), zone, (1, 0));
+        check_refused(&rt, close(9, &mut zone), zone, (1, 0));
+        check_refused(&rt, close(3, &mut zone), zone, (3, 9));
+        check_refused(&rt, set_first(2, &RANGES[0..1], &mut zone), zone, (3, 1));
+        check_refused(&rt, step(2, &RATES[0..1], &mut zone), zone, (3, 1));
     }
 
     #[test]
@@ -169,11 +170,8 @@ mod tests {
             rise: 10_000,
             fall: 10_001,
         };
-        assert_eq!(rt; refused(step(2, &[still, steep], &mut zone)), Some((4, 2)));
-        assert_eq!(rt;
-            refused(step(2, &[falling, still], &mut zone)),
-            Some((4, 3))
-        );
+        check_refused(&rt, step(2, &[still, steep], &mut zone), zone, (4, 2));
+        check_refused(&rt, step(2, &[falling, still], &mut zone), zone, (4, 3));
         let fine = Range {
             least: 0,
             most: 100_000,
@@ -183,40 +181,27 @@ mod tests {
             most: 100_001,
         };
         let crossed = Range { least: 2, most: 1 };
-        assert_eq!(rt;
-            refused(set_first(2, &[fine, crossed], &mut zone)),
-            Some((6, 2))
-        );
-        assert_eq!(rt;
-            refused(set_first(2, &[high, fine], &mut zone)),
-            Some((6, 1))
-        );
-        assert_eq!(rt; zone, [7; 9]);
+        check_refused(&rt, set_first(2, &[fine, crossed], &mut zone), zone, (6, 2));
+        check_refused(&rt, set_first(2, &[high, fine], &mut zone), zone, (6, 1));
     }
 
     #[test]
     fn readings_are_refused(rt: HostRuntime) {
         let mut zone = [7; 9];
-        assert_eq!(rt;
-            refused(meet(2, reading(1, 0, 2, 1), &mut zone)),
-            Some((9, 0))
+        check_refused(&rt, meet(2, reading(1, 0, 2, 1), &mut zone), zone, (9, 0));
+        check_refused(
+            &rt,
+            meet(2, reading(1, 0, -1_000_001, 0), &mut zone),
+            zone,
+            (9, 1),
         );
-        assert_eq!(rt;
-            refused(meet(2, reading(1, 0, -1_000_001, 0), &mut zone)),
-            Some((9, 1))
+        check_refused(
+            &rt,
+            meet(2, reading(1, 0, 0, 1_000_001), &mut zone),
+            zone,
+            (9, 1),
         );
-        assert_eq!(rt;
-            refused(meet(2, reading(1, 0, 0, 1_000_001), &mut zone)),
-            Some((9, 1))
-        );
-        assert_eq!(rt;
-            refused(meet(2, reading(3, 0, 0, 1), &mut zone)),
-            Some((10, 0))
-        );
-        assert_eq!(rt;
-            refused(meet(2, reading(1, 1, 0, 1), &mut zone)),
-            Some((10, 1))
-        );
-        assert_eq!(rt; zone, [7; 9]);
+        check_refused(&rt, meet(2, reading(3, 0, 0, 1), &mut zone), zone, (10, 0));
+        check_refused(&rt, meet(2, reading(1, 1, 0, 1), &mut zone), zone, (10, 1));
     }
 }

@@ -4,7 +4,7 @@ ghost use Rattle.zones.specs.Numbers.{Closes, ClosesFar, Settles, Turns, TurnsFa
 
 use crate::zone::Zone;
 
-// Every number of a zone without levels: each number is below itself.
+// Every number of a zone without levels: each number is below itself. Lent numbers have no room for another sign of it.
 const BELOW_ITSELF: i64 = -1;
 
 impl Zone<'_, i64> {
@@ -56,7 +56,7 @@ impl Zone<'_, i64> {
         }
     }
 
-    // In line at its few callers: so the zone is not put into memory for it, and its loops see a number of basins that is known.
+    // In line at its few callers: as a call of its own it took longer in the benchmark, whose number of basins is known.
     #[inline(always)]
     pub(crate) fn close(&mut self)
         ensures lent { SameLoan self.old self.new }

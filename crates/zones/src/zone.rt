@@ -14,7 +14,7 @@ pub(crate) struct Zone<'a, T> {
 impl<T: Copy> Zone<'_, T> {
     ghost use Rattle.zones.specs.Loan.{Each, SameLoan};
 
-    // The number of i over j.
+    // The number of i over j. Row and column stay two numbers: what bounds them is the zone.
     pub(crate) fn at(&self, i: usize, j: usize) -> T
         requires first { i ≤ self.now.basins }
         requires second { j ≤ self.now.basins }
