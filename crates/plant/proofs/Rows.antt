@@ -1,6 +1,8 @@
 -- Rows of events, event by event. Assumes nothing.
-use Rattle.std.proofs.Common.{◌≡◌, ℕ, ◌+◌, ◌<◌, ◌≤◌, Bool, true, false, cond, filter, List, [], ◌∷◌, ◌++◌, length, get_or, drop, is_some, Some, None, refl, ap, ◌∙◌, arith}
+use Rattle.std.proofs.Common.{◌≡◌, ℕ, ◌+◌, ◌<◌, ◌≤◌, Bool, true, false, cond, filter, List, [], ◌∷◌, ◌++◌, length, get_or, drop, is_some, Some, None, Option, option_map, inl, inr, sym, rules, ltb, refl, ap, ◌∙◌, arith}
 use Rattle.std.proofs.lemmas.List.{drop_more}
+use Rattle.std.proofs.lemmas.Option.{slice_get_cases, slice_get_within}
+use Rattle.std.specs.List.{slice_get}
 use Rattle.plant.specs.declared.kinds.Event.{Event}
 use Rattle.plant.specs.declared.kinds.Event.TheVariants as event
 use Rattle.std.proofs.lemmas.Bool.Decides.{nat_tests}
@@ -19,6 +21,17 @@ pub steps_counted : (es : List Event) → length (filter is_step es) ≡ steps_i
 steps_counted [] = refl
 steps_counted (event.Step ∷ es) = omega (arith, steps_counted es)
 steps_counted (event.Reading r ∷ es) = omega (arith, steps_counted es)
+
+-- there is a step with number k among them exactly if there are more than k
+pub step_there : {A : Type 0} (v : A → Event) (r : Option A) (k : ℕ) (es : List Event) →
+    option_map v r ≡ slice_get (filter is_step es) k → is_some r ≡ ltb k (steps_in es)
+step_there v (Some x) k es e =
+    let h = slice_get_within (filter is_step es) k (v x) (sym e) in
+    grind (arith, nat_tests, steps_counted es)
+step_there v None k es e = elim (slice_get_cases (filter is_step es) k).1 [
+  | inl w ↦ let here = w.2 in cc
+  | inr w ↦ let h = w.0 in grind (arith, nat_tests, steps_counted es)
+]
 
 -- one event more at the end
 pub steps_push : (es : List Event) (e : Event) → steps_in (es ++ (e ∷ [])) ≡ steps_in es + step_count e

@@ -1,5 +1,5 @@
 // The checks of events, one by one and in a row.
-ghost use Rattle.std.specs.Prelude.{◌≡◌, Option};
+ghost use Rattle.std.specs.Prelude.{◌≡◌, nat_lt, Option};
 ghost use Rattle.refusal.specs.Order.{Found, first_of};
 ghost use Rattle.refusal.specs.declared.kinds.Refusal.{Refusal};
 ghost use Rattle.plant.specs.declared.kinds.GaugeReading.{GaugeReading};
@@ -72,21 +72,22 @@ pub fn check_readings(gauges: u32, events: &[Event]) -> Result<(), Refusal>
     check_each(events, check_ends)
 }
 
-// How many steps are in a row.
-fn count_steps(events: &[Event]) -> usize
-    ensures { result ≡ steps_in events.now }
+// Whether more steps are in a row than are taken. No event after the first that is not taken is looked at.
+fn has_untaken_step(events: &[Event]) -> bool
+    ensures { result ≡ nat_lt 1000000 (steps_in events.now) }
 {
     events
         .iter()
         .filter(|event| matches!(event, Event::Step))
-        .count()
+        .nth(MAX_STEPS as usize)
+        .is_some()
 }
 
 // A row has no more steps than are taken.
 pub fn check_steps(events: &[Event]) -> Result<(), Refusal>
     ensures { Found result (steps_refused events.now) }
 {
-    if count_steps(events) > MAX_STEPS as usize {
+    if has_untaken_step(events) {
         return Err(Refusal::Steps(MAX_STEPS + 1));
     }
     Ok(())

@@ -1,16 +1,17 @@
 -- The zones of a table as a list, and what is counted over it. Assumes nothing.
-use Rattle.std.proofs.Common.{◌≡◌, ℕ, zero, suc, ◌+◌, ◌*◌, ◌<◌, ◌≤◌, Bool, true, false, cond, not, ◌&&◌, ◌||◌, ltb, List, [], ◌∷◌, ◌++◌, map, length, take, drop, get_or, ℤ, pos, Some, None, vec_items, Option, sym, refl, ap, ◌∙◌, arith, rules}
+use Rattle.std.proofs.Common.{◌≡◌, ℕ, zero, suc, ◌+◌, ◌*◌, ◌<◌, ◌≤◌, Bool, true, false, cond, not, ◌&&◌, ◌||◌, ltb, List, [], ◌∷◌, ◌++◌, map, length, take, drop, get_or, ℤ, pos, Some, None, vec_items, Option, MatchOption, subst, sym, refl, ap, ◌∙◌, arith, rules}
 use Rattle.std.proofs.lemmas.List.{append-nil, map-append, take_at, drop_at, drop-drop, length-drop, length-append}
 use Rattle.std.proofs.lemmas.List.Elements.{filter-append}
 use Rattle.std.proofs.lemmas.List.Folds.{list_all-append}
 use Rattle.std.proofs.lemmas.List.Sums.{fold-append}
 use Rattle.std.proofs.lemmas.Fn.{fold_over}
 use Rattle.std.proofs.lemmas.Iterator.{YieldsList}
+use Rattle.std.proofs.lemmas.Iterator.Consumers.{reduce_from_yields_List}
 use denote.Param.Members.{Mut}
 use Rattle.std.specs.Int.{int_max}
 use Rattle.std.specs.Fn.{Called}
 use Rattle.std.specs.Iterator.{AlwaysYields, Drains}
-use Rattle.std.specs.List.{FoldsTo, filter, fold, reduce, list_all, zip}
+use Rattle.std.specs.List.{FoldsTo, filter, reduce, list_all, zip}
 use Rattle.std.specs.Slice.Iter.{chunks_exact_rest, chunks_exact_size, chunks_exact_steps}
 use Rattle.std.specs.declared.slice.ChunksExact.{ChunksExact}
 use Rattle.zones.specs.Numbers.{cell}
@@ -200,14 +201,23 @@ met_from_yields_List {steps = steps} {v = v} {s = s} {all = all} f {state} g fir
     (λ ps a x b q met k. let t = step a x b q k in (met_more g ps (v x) a b met t.1, t.0)) s all first r road.runs
     (λ a. start a ∙ sym (and_true (ltb a g && ltb a 16))) ran
 
--- the largest, by the order of the numbers
-pub reduce_same : {A : Type 0} (f g : A → A → A) → ((x y : A) → f x y ≡ g x y) → (xs : List A) → reduce f xs ≡ reduce g xs
-reduce_same f g same [] = refl
-reduce_same f g same (x ∷ xs) = ap Some (folds x xs)
+-- what a closure makes of the items two by two is h of them
+pub reduce_by_calls : {S A F : Type 0} {steps : S → Option A → S → Type 0} {s : S} {all : List A}
+    (f : Mut F (A × (A × Unit {0})) A) (h : A → A → A) {state : F} (r : Option A) →
+    MatchOption r (Drains steps s []) (λ y. (x : A) × (xs : List A) × (q : F) × Drains steps s (x ∷ xs)
+    × FoldsTo {P = F × A} (λ a z b. Called f a.0 (a.1, (z, tt)) b.1 b.0) (state, x) xs (q, y)) →
+    YieldsList steps (λ x. x) s all →
+    ((a x b : A) (q : F) → Called f state (a, (x, tt)) b q → (q ≡ state) × (b ≡ h a x)) → r ≡ reduce h all
+reduce_by_calls f h None ran road step = reduce_from_yields_List h _ None ran road
+reduce_by_calls {A = A} {F = F} f h {state} (Some y) ran road step =
+    reduce_from_yields_List h _ (Some y) (ran.0, ran.1, ran.3, plain ran.1 _ _ refl ran.4) road
   where
-    folds : (a : _) (ys : List _) → fold f a ys ≡ fold g a ys
-    folds a [] = refl
-    folds a (y ∷ ys) = ap (λ b. fold f b ys) (same a y) ∙ folds (g a y) ys
+    plain : (xs : List A) (p q : F × A) → p.0 ≡ state → FoldsTo {P = F × A} (λ a z b. Called f a.0 (a.1, (z, tt)) b.1 b.0) p xs q →
+        FoldsTo (λ a z b. b ≡ h a z) p.1 xs q.1
+    plain [] p q same c = ap (λ w. w.1) c
+    plain (x ∷ xs) p q same c =
+        let made = step p.1 x c.0.1 c.0.0 (subst (λ w. Called f w (p.1, (x, tt)) c.0.1 c.0.0) same c.1) in
+        (c.0.1, made.1, plain xs c.0 q made.0 c.2)
 
 -- met over the zones that have levels
 pub met_all : (o : Observer) (r : FaultSet) →

@@ -65,7 +65,8 @@ pub fn difference_span(observer: &Observer, first: u32, second: u32) -> Result<S
 pub fn alarm(observer: &Observer, basin: u32, limit: i64) -> Result<Alarm, Refusal>
     ensures { AlarmSays observer.now basin limit result }
 {
-    Ok(alarm_of(basin_span(observer, basin)?, limit))
+    check_basin(observer.plant.basins, basin)?;
+    Ok(alarm_of(span(observer, basin as usize, 0), limit))
 }
 
 // The gauges that are wrong in all histories, and whether there is no history.

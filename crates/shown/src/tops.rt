@@ -37,7 +37,7 @@ pub(crate) fn largest(observer: &Observer, first: usize, second: usize) -> Optio
     zones(observer)
         .filter(|zone| !lacks_levels(zone))
         .map(|zone| zone[at])
-        .max()
+        .reduce(|best, number| best.max(number))
 }
 
 // Whether no zone has levels.

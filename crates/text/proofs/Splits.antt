@@ -1,14 +1,10 @@
 -- A line cut into its words. Assumes nothing.
-use Rattle.std.proofs.Common.{◌≡◌, ℕ, ◌<◌, ◌≤◌, Bool, true, false, cond, eqb, List, [], ◌∷◌, ◌++◌, length, get_or, take, drop, Some, None, Option, unwrap_or, sym, refl, ap, ◌∙◌, subst, append_assoc, append-nil, arith, take-append-drop, Bor, MatchOption, not, ltb}
-use Rattle.std.specs.Str.{NoCharPasses}
-use Rattle.std.specs.Str.Pattern.{FindsBy, FindsPrefixBy, CutsPrefixes, IsFullyTrimmed, IsTrimStartMatches, MatchBeginsAt}
-use Rattle.std.specs.Char.{char_set_contains}
-use Rattle.std.specs.List.{AllByRecursion}
+use Rattle.std.proofs.Common.{◌≡◌, ℕ, zero, suc, ◌<◌, ◌≤◌, Bool, true, false, cond, eqb, List, [], ◌∷◌, ◌++◌, length, get_or, take, drop, Some, None, IsUtf8, Option, unwrap_or, sym, refl, ap, ◌∙◌, subst, append_assoc, append-nil, add-one, arith, take-append-drop, length-take-le, get_or-take, Bor, MatchOption, not, nat_lt}
+use Rattle.std.specs.Str.{IsCharBoundary}
+use Rattle.std.specs.List.{AllByRecursion, position, position_or_len}
 use Rattle.std.proofs.ByRecursion.{All-from_get_or}
-use Rattle.std.proofs.lemmas.Str.{encode_ascii, len_utf8_bounds, NoCharPasses-byte}
-use Rattle.std.proofs.lemmas.Str.Pattern.{drop_at_char}
-use Rattle.std.proofs.Math.Seq.{take-length, drop-length}
-use Rattle.std.proofs.Math.Utf8.{low_scalar}
+use Rattle.std.proofs.lemmas.List.Sums.{fails_before_first, passes_at_first, prefix_len-le-length}
+use Rattle.std.proofs.lemmas.Str.{IsCharBoundary-start, IsCharBoundary-after_ascii}
 use Rattle.std.proofs.lemmas.Bool.Decides.{nat_tests}
 use Rattle.text.specs.Words.{blank, letter, split, chopped}
 
@@ -51,83 +47,95 @@ words_over : (rest : List ℕ) → NoBlank rest → NoLetter rest → split [] r
 words_over [] b h = refl
 words_over (c ∷ cs) b h = let k : eqb c 35 ≡ true = grind (arith, nat_tests, b, h) in rw (b, k) refl
 
--- what `trim_start_matches` cuts off is passed over
-abbrev pub Blanks : List ℕ → Option ℕ → Type 0
-Blanks s o = (k : ℕ → Bool) → ((c : ℕ) → char_set_contains (32 ∷ 9 ∷ []) c ≡ k c) → FindsPrefixBy k s o
+-- blanks in front are passed over
+gap_passed : (gap rest : List ℕ) → AllByRecursion (Passes blank) gap → split [] (gap ++ rest) ≡ split [] rest
+gap_passed [] rest h = refl
+gap_passed (c ∷ gap) rest h = rw h.0 (gap_passed gap rest h.1)
 
-blanks : (s : List ℕ) (o : Option ℕ) → Blanks s o → FindsPrefixBy blank s o
-blanks s o h = h blank (λ c. grind (arith, nat_tests))
+-- the first n bytes pass the test, and the next does not
+pub record Front (test : ℕ → Bool) (bs : List ℕ) (n : ℕ) : Type 0 where
+  pub within : n ≤ length bs
+  pub all : (i : ℕ) → i < n → test (get_or bs i 0) ≡ true
+  pub stops : n < length bs → test (get_or bs n 0) ≡ false
 
-cut_passed : (ns bs rest : List ℕ) → CutsPrefixes Blanks bs ns rest → split [] bs ≡ split [] rest
-cut_passed [] bs rest e = ap (split []) (sym e)
-cut_passed (n ∷ ns) bs rest (before, cuts, found, e) =
-    let f = blanks before (Some n) found in
-    let begins : before ≡ f.0 ∷ drop n before = drop_at_char f.0 before 0 n f.2 (grind (arith, nat_tests, f.1)) in
-    cut_passed ns bs before cuts ∙ ap (split []) begins ∙ rw f.1 (ap (split []) (sym e))
-
-none_left : (rest : List ℕ) → IsFullyTrimmed Blanks rest → NoBlank rest
-none_left [] h = tt
-none_left (c ∷ cs) (None, found, none) = is (blank c) refl
+-- so it is where n is the place of the first that does not, or all there are
+pub fronted : (test : ℕ → Bool) (bs : List ℕ) (r : Option ℕ) (n : ℕ) → r ≡ position (λ c. not (test c)) bs →
+    n ≡ unwrap_or r (length bs) → Front test bs n
+fronted test bs r n found is = subst (Front test bs) (sym at) (record {
+  within = few;
+  all = λ i l. passed (test (get_or bs i 0)) (fails_before_first fails bs i 0 l);
+  stops = λ l. failed (test (get_or bs place 0)) (passes_at_first fails bs 0 l);
+})
   where
-    is : (b : Bool) → blank c ≡ b → blank c ≡ false
-    is false e = e
-    is true e =
-        let low : c < 128 = grind (arith, nat_tests, e) in
-        blanks (c ∷ cs) None found c cs (low_scalar c (omega arith)) (ap (λ x. x ++ cs) (sym (encode_ascii c low)))
-none_left (c ∷ cs) (Some n, found, none) =
-    let f = blanks (c ∷ cs) (Some n) found in
-    absurd (omega (arith, f.2.ends, none, (len_utf8_bounds f.0).0))
+    fails : ℕ → Bool
+    fails c = not (test c)
 
--- where no character ends a word, every byte is one of a word
-word_bytes : (bs : List ℕ) → NoCharPasses (λ c. not (letter c)) bs → AllByRecursion (Passes letter) bs
-word_bytes bs h = All-from_get_or (Passes letter) bs 0 (λ i l. byte i l (ltb (get_or bs i 0) 128) refl)
+    place : ℕ
+    place = position_or_len fails bs
+
+    few : place ≤ length bs
+    few = prefix_len-le-length (λ c. not (fails c)) bs
+
+    passed : (b : Bool) → not b ≡ false → b ≡ true
+    passed true e = refl
+    passed false e = sym e
+
+    failed : (b : Bool) → not b ≡ true → b ≡ false
+    failed true e = sym e
+    failed false e = refl
+
+    here : (b : Bool) → nat_lt place (length bs) ≡ b → unwrap_or (cond b (Some place) None) (length bs) ≡ place
+    here true e = refl
+    here false e = let h = few in grind (arith, nat_tests)
+
+    at : n ≡ place
+    at = is ∙ ap (λ o. unwrap_or o (length bs)) found ∙ here (nat_lt place (length bs)) refl
+
+module _ (test : ℕ → Bool) (bs : List ℕ) (n : ℕ) (front : Front test bs n) where
+  front_all : AllByRecursion (Passes test) (take n bs)
+  front_all =
+      All-from_get_or (Passes test) (take n bs) 0
+      (λ i l. let k : i < n = omega (arith, length-take-le n bs front.within) in ap test (get_or-take n bs i 0 k) ∙ front.all i k)
+
+  -- what follows begins with a byte that fails the test
+  front_after : (P : List ℕ → Type 0) → P [] → ((c : ℕ) (cs : List ℕ) → test c ≡ false → P (c ∷ cs)) → P (drop n bs)
+  front_after P none some = after bs n front.within front.stops
+    where
+      after : (xs : List ℕ) (m : ℕ) → m ≤ length xs → (m < length xs → test (get_or xs m 0) ≡ false) → P (drop m xs)
+      after [] zero l h = none
+      after [] (suc m) l h = absurd (omega arith)
+      after (x ∷ xs) zero l h = some x xs (h (omega arith))
+      after (x ∷ xs) (suc m) l h = after xs m (omega arith) (λ k. h (omega arith))
+
+pub gap_cut : (bs : List ℕ) (n : ℕ) → Front blank bs n → IsUtf8 bs → IsCharBoundary bs n
+gap_cut bs zero front u = IsCharBoundary-start bs u
+gap_cut bs (suc n) front u =
+    let low : get_or bs n 0 < 128 = grind (arith, nat_tests, front.all n (omega arith)) in
+    subst (IsCharBoundary bs) (add-one n) (IsCharBoundary-after_ascii bs n u (omega (arith, front.within)) low)
+
+pub word_cut : (bs : List ℕ) (n : ℕ) → Front letter bs n → IsCharBoundary bs n
+word_cut bs n front = (front.within, λ l high. absurd (wide (get_or bs n 0) (front.stops l) high))
   where
-    byte : (i : ℕ) → i < length bs → (b : Bool) → ltb (get_or bs i 0) 128 ≡ b → letter (get_or bs i 0) ≡ true
-    byte i l true e =
-        let low : get_or bs i 0 < 128 = grind (arith, nat_tests, e) in
-        let k = NoCharPasses-byte (λ c. not (letter c)) bs i h l low in
-        grind (arith, nat_tests, k)
-    byte i l false e = grind (arith, nat_tests, e)
+    wide : (c : ℕ) → letter c ≡ false → 128 ≤ c → ⊥
+    wide c h k = grind (arith, nat_tests)
 
--- the first word is cut at the end that `find` gives
-abbrev pub Ends : List ℕ → Option (ℕ × ℕ) → Type 0
-Ends s o = (k : ℕ → Bool) → ((c : ℕ) → char_set_contains (32 ∷ 9 ∷ 35 ∷ []) c ≡ k c) → FindsBy k s o
+module _ (bs rest : List ℕ) (n m : ℕ) (gap : Front blank bs n) (after : rest ≡ drop n bs) (word : Front letter rest m) where
+  gap_over : split [] bs ≡ split [] rest
+  gap_over =
+      ap (split []) (sym (take-append-drop n bs)) ∙ gap_passed (take n bs) (drop n bs) (front_all blank bs n gap)
+      ∙ ap (split []) (sym after)
 
-ends : (s : List ℕ) (o : Option (ℕ × ℕ)) → Ends s o → FindsBy (λ c. not (letter c)) s o
-ends s o h = h (λ c. not (letter c)) (λ c. grind (arith, nat_tests))
+  pub no_word : m ≡ 0 → split [] bs ≡ []
+  no_word z =
+      gap_over ∙ words_over rest (subst NoBlank (sym after) (front_after blank bs n gap NoBlank tt (λ c cs h. h)))
+      (subst (λ k. NoLetter (drop k rest)) z (front_after letter rest m word NoLetter tt (λ c cs h. h)))
 
--- the bytes before it are those of a word, and the one there is not
-abbrev Cut : List ℕ → ℕ → Type 0
-Cut rest n = AllByRecursion (Passes letter) (take n rest) × NoLetter (drop n rest)
-
-cut_at : (rest : List ℕ) (r : Option ℕ) → MatchOption r (Ends rest None) (MatchBeginsAt Ends rest)
-    → Cut rest (unwrap_or r (length rest))
-cut_at rest None h = (
-  subst (AllByRecursion (Passes letter)) (sym (take-length rest)) (word_bytes rest (ends rest None h)),
-  subst NoLetter (sym (drop-length rest)) tt,
-)
-cut_at rest (Some i) (j, found, le, before, after) =
-    let f = ends rest (Some (i, j)) found in
-    let e : drop i rest ≡ f.1.0 ∷ drop j rest = drop_at_char f.1.0 rest i j f.1.2 (grind (arith, nat_tests, f.1.1)) in
-    (word_bytes (take i rest) f.0, subst NoLetter (sym e) (grind (arith, nat_tests, f.1.1)))
-
--- `trim_start_matches` gives `rest`, and `find` the end n of its first word
-module _ (bs rest : List ℕ) (r : Option ℕ) (n : ℕ) (trimmed : IsTrimStartMatches Blanks bs rest)
-    (found : MatchOption r (Ends rest None) (MatchBeginsAt Ends rest)) (is : n ≡ unwrap_or r (length rest)) where
-  passed : split [] bs ≡ split [] rest
-  passed = cut_passed trimmed.0.0 bs rest trimmed.0.1
-
-  cut : Cut rest n
-  cut = subst (Cut rest) (sym is) (cut_at rest r found)
-
-  pub no_word : n ≡ 0 → split [] bs ≡ []
-  no_word z = passed ∙ words_over rest (none_left rest trimmed.1) (subst (λ k. NoLetter (drop k rest)) z cut.1)
-
-  pub one_word : (w left : List ℕ) → (n ≡ 0 → ⊥) → length w ≡ n → w ≡ take n rest → left ≡ drop n rest
+  pub one_word : (w left : List ℕ) → (m ≡ 0 → ⊥) → w ≡ take m rest → left ≡ drop m rest
       → split [] bs ≡ w ∷ split [] left
-  one_word w left some len p q =
-      passed ∙ ap (split []) (sym (take-append-drop n rest))
-      ∙ word_first (take n rest) (drop n rest) cut.0 (omega (arith, ap length p, some, len)) cut.1
+  one_word w left some p q =
+      gap_over ∙ ap (split []) (sym (take-append-drop m rest))
+      ∙ word_first (take m rest) (drop m rest) (front_all letter rest m word)
+      (omega (arith, length-take-le m rest word.within, some)) (front_after letter rest m word NoLetter tt (λ c cs h. h))
       ∙ (λ i. sym p i ∷ split [] (sym q i))
 
 -- the end of a line

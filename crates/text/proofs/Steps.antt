@@ -87,15 +87,18 @@ module _ (format : Format) (line : List ℕ) (s t : Words) (plain : HasNul line 
   nothing None h e = (plain, sym begun ∙ h)
   nothing (Some w) h e = cc
 
+  -- what is made of an entry is that entry
   pub read : (first : Option (Bor (List ℕ))) (r : Result Entry LineError) (q : Result (Option Entry) LineError)
+      {Made : Entry → Option Entry → Type 0}
       → MatchOption first (left s ≡ []) (Next s t) → is_some first ≡ true
       → MatchResult r (Names format t) (Refuses format t)
-      → MatchResult r (λ e. IsOkAnd q (λ o. o ≡ Some e)) (λ x. q ≡ Err x) → Reading format line q
-  read None r q h e k made = cc
-  read (Some w) (Ok d) (Ok o) h e k made =
-      subst (λ y. Reading format line (Ok y)) (sym made)
+      → MatchResult r (λ e. IsOkAnd q (Made e)) (λ x. q ≡ Err x)
+      → ((e : Entry) (o : Option Entry) → Made e o → o ≡ Some e) → Reading format line q
+  read None r q h e k made same = cc
+  read (Some w) (Ok d) (Ok o) h e k made same =
+      subst (λ y. Reading format line (Ok y)) (sym (same d o made))
       (plain, by_first (λ v vs. Says format v vs d) line s t w begun h k)
-  read (Some w) (Ok d) (Err x) h e k made = absurd made
-  read (Some w) (Err x) q h e k made =
+  read (Some w) (Ok d) (Err x) h e k made same = absurd made
+  read (Some w) (Err x) q h e k made same =
       subst (Reading format line) (sym made)
       (inr (plain, by_first (λ v vs. Unsaid format v vs x) line s t w begun h k))

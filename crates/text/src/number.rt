@@ -28,6 +28,8 @@ pub fn number(word: &str, field: Field) -> Result<i64, LineError<'_>>
     if !is_numeral(word) {
         return Err(LineError::NotNumber { field, word });
     }
-    word.parse()
-        .map_err(|_| LineError::TooLarge { field, word })
+    let value = word
+        .parse::<i64>()
+        .map_err(|_| LineError::TooLarge { field, word })?;
+    Ok(value)
 }

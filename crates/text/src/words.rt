@@ -30,8 +30,19 @@ impl<'a> Iterator for Words<'a> {
     ghost remaining = { item_count left };
 
     fn next(&mut self) -> Option<&'a str> {
-        let rest = self.rest.trim_start_matches([' ', '\t']);
-        let end = rest.find([' ', '\t', '#']).unwrap_or(rest.len());
+        // by bytes: a search for characters takes longer, and what parts words is ASCII
+        let gap = self
+            .rest
+            .as_bytes()
+            .iter()
+            .position(|byte| !matches!(*byte, b' ' | b'\t'))
+            .unwrap_or(self.rest.len());
+        let (_, rest) = self.rest.split_at(gap);
+        let end = rest
+            .as_bytes()
+            .iter()
+            .position(|byte| matches!(*byte, b' ' | b'\t' | b'#'))
+            .unwrap_or(rest.len());
         if end == 0 {
             return None;
         }

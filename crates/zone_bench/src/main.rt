@@ -121,9 +121,10 @@ fn taken(sum: Result<i64, Refusal>) -> anyhow::Result<i64> {
 
 fn run(rt: &HostRuntime) -> anyhow::Result<()> {
     let Some(rounds) = env::args(rt)?.nth(1) else {
-        println!(rt; "close {}", taken(left_by_closing(100))?)?;
-        println!(rt; "step {}", taken(left_by_steps(100))?)?;
-        println!(rt; "meet {}", taken(left_by_readings(100))?)?;
+        let closed = taken(left_by_closing(100))?;
+        let stepped = taken(left_by_steps(100))?;
+        let met = taken(left_by_readings(100))?;
+        println!(rt; "close {closed}\nstep {stepped}\nmeet {met}")?;
         return Ok(());
     };
     let rounds = rounds.as_str().parse::<usize>()?;

@@ -27,4 +27,4 @@ returns c =
     parses _ _ _
     (read c.args.format c.args.line.now c.of-words.result c.next.new.self (plain (goal.at.returns c).Else-contains)
     c.of-words.ensures c.next.result c.entry.result c.map.result c.next.ensures.steps (search rules) c.entry.ensures
-    c.map.ensures.cases)
+    c.map.ensures.cases (λ e o made. search rules))
