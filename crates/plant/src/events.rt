@@ -72,7 +72,7 @@ pub fn check_readings(gauges: u32, events: &[Event]) -> Result<(), Refusal>
     check_each(events, check_ends)
 }
 
-// Whether more steps are in a row than are taken. No event after the first that is not taken is looked at.
+// Whether more steps are in a row than are taken. No event after the first step too many is looked at.
 fn has_untaken_step(events: &[Event]) -> bool
     ensures { result ≡ nat_lt 1000000 (steps_in events.now) }
 {
